@@ -1,0 +1,5 @@
+pub mod Same
+pub mod Everywhere
+pub mod Rising
+pub mod Stuffing
+pub mod Calm

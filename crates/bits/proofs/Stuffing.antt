@@ -1,0 +1,31 @@
+-- The laws of stuffing. Assumes nothing.
+--     stuff-starts-run      five bits 0 draw a stuff bit 1, and that is the first of five bits 1
+--     stuffed-length        a row as it is sent has the row's bits and its stuff bits
+--     runBehind-append      rows one behind the other: the run that they leave
+--     stuffCount-append     the stuff bits that they draw
+use mathlib.Core.Path.{_≡_, refl}
+use mathlib.Core.List.{List, [], _∷_, _++_}
+use Prim.Native.Nat.{ℕ, _+_}
+use native.Mathlib.Omega.{arith}
+use lib.ListN.{length, length-append}
+use Rattle.bits.specs.Stuffing.{Run, idle, stuffAfter, runAfter, stuffed, stuffCount, runBehind}
+
+pub stuff-starts-run : stuffed idle (0 ∷ 0 ∷ 0 ∷ 0 ∷ 0 ∷ 1 ∷ 1 ∷ 1 ∷ 1 ∷ 1 ∷ [])
+    ≡ 0 ∷ 0 ∷ 0 ∷ 0 ∷ 0 ∷ 1 ∷ 1 ∷ 1 ∷ 1 ∷ 1 ∷ 0 ∷ 1 ∷ []
+unfolding stuffAfter runAfter stuffed
+stuff-starts-run = refl
+
+pub stuffed-length : (r : Run) (l : List ℕ) → length (stuffed r l) ≡ length l + stuffCount r l
+unfolding stuffed stuffCount
+stuffed-length r [] = refl
+stuffed-length r (b ∷ l) = simp (length-append, stuffed-length (runAfter r b) l) (omega arith)
+
+pub runBehind-append : (r : Run) (l m : List ℕ) → runBehind r (l ++ m) ≡ runBehind (runBehind r l) m
+unfolding runBehind
+runBehind-append r [] m = refl
+runBehind-append r (b ∷ l) m = runBehind-append (runAfter r b) l m
+
+pub stuffCount-append : (r : Run) (l m : List ℕ) → stuffCount r (l ++ m) ≡ stuffCount r l + stuffCount (runBehind r l) m
+unfolding stuffCount runBehind
+stuffCount-append r [] m = omega arith
+stuffCount-append r (b ∷ l) m = omega (arith, stuffCount-append (runAfter r b) l m)

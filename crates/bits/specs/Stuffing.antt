@@ -1,0 +1,44 @@
+-- Bit stuffing: after five equal bits, counting stuff bits already sent, one bit of the other value is sent; it is the first bit
+-- of the next run. A stuff bit belongs to the bit that it follows. Assumes nothing.
+use Prim.Native.Nat.{ℕ, _+_, _-_}
+use mathlib.Core.Bool.{cond}
+use mathlib.Core.List.{List, [], _∷_, _++_}
+use lib.Dec.{eqb}
+use lib.ListN.{length}
+
+-- the run of equal bits that ends what was sent: its bit, and how many they are
+pub record Run : Type 0 where
+  pub bit : ℕ
+  pub count : ℕ
+
+-- nothing has been sent
+abbrev pub idle : Run
+idle = record { bit = 0; count = 0 }
+
+-- how many equal bits end what was sent, once b is sent too
+abbrev pub counted : Run → ℕ → ℕ
+counted r b = cond (eqb b (r .bit)) (r .count + 1) 1
+
+-- the stuff bits that follow b: one after five equal bits, else none
+unfoldable pub stuffAfter : Run → ℕ → List ℕ
+stuffAfter r b = cond (eqb (counted r b) 5) ((1 - b) ∷ []) []
+
+-- the run, once b and what follows it are sent
+unfoldable pub runAfter : Run → ℕ → Run
+runAfter r b =
+    cond (eqb (counted r b) 5) (record { bit = 1 - b; count = 1 }) (record { bit = b; count = counted r b })
+
+-- a row as it is sent, with its stuff bits
+unfoldable pub stuffed : Run → List ℕ → List ℕ
+stuffed r [] = []
+stuffed r (b ∷ l) = b ∷ (stuffAfter r b ++ stuffed (runAfter r b) l)
+
+-- how many stuff bits follow the bits of a row
+unfoldable pub stuffCount : Run → List ℕ → ℕ
+stuffCount r [] = 0
+stuffCount r (b ∷ l) = length (stuffAfter r b) + stuffCount (runAfter r b) l
+
+-- the run, once a row and its stuff bits are sent
+unfoldable pub runBehind : Run → List ℕ → Run
+runBehind r [] = r
+runBehind r (b ∷ l) = runBehind (runAfter r b) l
