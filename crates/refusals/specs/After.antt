@@ -1,0 +1,15 @@
+-- What a lent buffer holds after an answer. Assumes nothing.
+use Prim.Native.Nat.{ℕ}
+use mathlib.Core.List.{List, _++_}
+use lib.ListN.{length, drop}
+use Rattle.refusals.specs.declared.Answer.{Answer}
+use Rattle.refusals.specs.declared.Answer.the-variants.{Length, Refused}
+
+-- the result, and behind it the old bytes
+abbrev pub written : List ℕ → List ℕ → List ℕ
+written result old = result ++ drop (length result) old
+
+-- on success only the bytes of the result are written; a refusal leaves the old bytes
+abbrev pub after : Answer → List ℕ → List ℕ → List ℕ
+after (Length n) result old = written result old
+after (Refused refusal) result old = old
