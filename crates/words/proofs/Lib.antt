@@ -1,0 +1,4 @@
+pub mod Places
+pub mod Lists
+pub mod Words
+pub mod Symbols

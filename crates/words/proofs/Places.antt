@@ -1,0 +1,48 @@
+-- The place of a number in a list, for any list. Assumes nothing.
+--     place-none     a number greater than all of the list is not in it
+--     place-found    what stands at the place of a number is that number
+--     place-at       in a rising list what stands at a place has that place
+use mathlib.Core.Path.{_≡_, refl, ap}
+use mathlib.Core.Bool.{Bool, true, false, _&&_, cond}
+use mathlib.Core.List.{List, [], _∷_}
+use Prim.Native.Nat.{ℕ, zero, suc, _≤_, _<_}
+use native.Mathlib.Nat.{not-suc-le-zero, le-of-suc-le-suc}
+use native.Mathlib.Omega.{arith}
+use lib.Dec.{T, eqb, ltb, ltb→lt}
+use lib.ListN.{length, getD}
+use borrow.Author.Tests.{eq-eqb, ne-eqb, eqb-true}
+use mir.Facts.{and-yes}
+use Rattle.bits.proofs.Rising.{rising, rising-tail, rising-at}
+use Rattle.words.specs.Symbols.{placeIn}
+
+-- each number of the list is below n
+abbrev pub allBelow : ℕ → List ℕ → Bool
+allBelow n [] = true
+allBelow n (x ∷ l) = ltb x n && allBelow n l
+
+pub place-none : (n : ℕ) (l : List ℕ) → T (allBelow n l) → (w : ℕ) → n ≤ w → placeIn l w ≡ length l
+unfolding placeIn
+place-none n [] t w h = refl
+place-none n (x ∷ l) t w h =
+    let both = and-yes (ltb x n) (allBelow n l) t in
+    let b : x < n = ltb→lt x n (both .0) in
+    rw (ne-eqb x w (λ e. omega arith)) (ap suc (place-none n l (both .1) w h))
+
+pub place-found : (l : List ℕ) (w : ℕ) → placeIn l w < length l → getD l (placeIn l w) 0 ≡ w
+unfolding placeIn
+place-found [] w h = absurd (not-suc-le-zero h)
+place-found (x ∷ l) w h = go (eqb x w) refl (place-found l w) h
+  where
+    go : (b : Bool) → eqb x w ≡ b → (placeIn l w < length l → getD l (placeIn l w) 0 ≡ w) → cond b 0 (suc (placeIn l w)) < suc (length l)
+        → getD (x ∷ l) (cond b 0 (suc (placeIn l w))) 0 ≡ w
+    go true e rest k = eqb-true x w e
+    go false e rest k = rest (le-of-suc-le-suc k)
+
+pub place-at : (l : List ℕ) → T (rising l) → (i : ℕ) → i < length l → placeIn l (getD l i 0) ≡ i
+unfolding placeIn
+place-at [] t i h = absurd (not-suc-le-zero h)
+place-at (x ∷ l) t zero h = rw (eq-eqb x x refl)
+place-at (x ∷ l) t (suc i) h =
+    let less : x < getD l i 0 = rising-at (x ∷ l) t 0 (suc i) (omega arith) h in
+    rw (ne-eqb x (getD l i 0) (λ e. omega arith))
+    (ap suc (place-at l (rising-tail x l t) i (le-of-suc-le-suc h)))

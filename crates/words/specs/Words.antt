@@ -1,0 +1,34 @@
+-- The words, by document 01's ordering rule. Assumes nothing.
+use Prim.Native.Nat.{ℕ, zero, suc, _+_}
+use mathlib.Core.Bool.{Bool, true, false, not, _&&_}
+use mathlib.Core.List.{List, [], _∷_}
+use lib.ListN.{getD, take, drop}
+use Rattle.bits.specs.Rows.{bits}
+use Rattle.bits.specs.Neighbours.{equalNeighbours}
+
+-- no five neighbours are equal, the first three bits are not all equal, and the last three are not all equal
+abbrev pub keepsRule : List ℕ → Bool
+keepsRule l =
+    not (equalNeighbours 5 l) && not (equalNeighbours 3 (take 3 l)) && not (equalNeighbours 3 (drop 6 l))
+
+-- the n numbers from a on
+abbrev pub numbersFrom : ℕ → ℕ → List ℕ
+numbersFrom a zero = []
+numbersFrom a (suc n) = a ∷ numbersFrom (suc a) n
+
+-- those numbers of a list whose nine bits are a word
+abbrev pub wordsAmong : List ℕ → List ℕ
+wordsAmong [] = []
+wordsAmong (w ∷ l) = kept (keepsRule (bits 9 w)) (wordsAmong l)
+  where
+    kept : Bool → List ℕ → List ℕ
+    kept true rest = w ∷ rest
+    kept false rest = rest
+
+-- all words, ordered as nine-bit numbers: J first, K last
+unfoldable pub words : List ℕ
+words = wordsAmong (numbersFrom 0 512)
+
+-- byte x is carried by the word at place x + 1, counting J as place 0
+unfoldable pub wordOf : ℕ → ℕ
+wordOf x = getD words (x + 1) 0
