@@ -1,17 +1,17 @@
 -- The laws of stuffing. Assumes nothing.
---     stuff-starts-run      five bits 0 draw a stuff bit 1, and that is the first of five bits 1
+--     stuff-starts-run      five bits 1 draw a stuff bit 0, that is the first of five bits 0, and a run that a sent bit starts counts too
 --     stuffed-length        a row as it is sent has the row's bits and its stuff bits
---     runBehind-append      rows one behind the other: the run that they leave
+--     runAfterRow-append      rows one behind the other: the run that they leave
 --     stuffCount-append     the stuff bits that they draw
 use mathlib.Core.Path.{_≡_, refl}
 use mathlib.Core.List.{List, [], _∷_, _++_}
 use Prim.Native.Nat.{ℕ, _+_}
 use native.Mathlib.Omega.{arith}
 use lib.ListN.{length, length-append}
-use Rattle.bits.specs.Stuffing.{Run, idle, stuffAfter, runAfter, stuffed, stuffCount, runBehind}
+use Rattle.bits.specs.Stuffing.{Run, nothingSent, stuffAfter, runAfter, stuffed, stuffCount, runAfterRow}
 
-pub stuff-starts-run : stuffed idle (0 ∷ 0 ∷ 0 ∷ 0 ∷ 0 ∷ 1 ∷ 1 ∷ 1 ∷ 1 ∷ 1 ∷ [])
-    ≡ 0 ∷ 0 ∷ 0 ∷ 0 ∷ 0 ∷ 1 ∷ 1 ∷ 1 ∷ 1 ∷ 1 ∷ 0 ∷ 1 ∷ []
+pub stuff-starts-run : stuffed nothingSent (1 ∷ 1 ∷ 1 ∷ 1 ∷ 1 ∷ 0 ∷ 0 ∷ 0 ∷ 0 ∷ 0 ∷ 1 ∷ 1 ∷ 1 ∷ 1 ∷ 1 ∷ [])
+    ≡ 1 ∷ 1 ∷ 1 ∷ 1 ∷ 1 ∷ 0 ∷ 0 ∷ 0 ∷ 0 ∷ 0 ∷ 1 ∷ 0 ∷ 1 ∷ 1 ∷ 1 ∷ 1 ∷ 1 ∷ 0 ∷ []
 unfolding stuffAfter runAfter stuffed
 stuff-starts-run = refl
 
@@ -20,12 +20,12 @@ unfolding stuffed stuffCount
 stuffed-length r [] = refl
 stuffed-length r (b ∷ l) = simp (length-append, stuffed-length (runAfter r b) l) (omega arith)
 
-pub runBehind-append : (r : Run) (l m : List ℕ) → runBehind r (l ++ m) ≡ runBehind (runBehind r l) m
-unfolding runBehind
-runBehind-append r [] m = refl
-runBehind-append r (b ∷ l) m = runBehind-append (runAfter r b) l m
+pub runAfterRow-append : (r : Run) (l m : List ℕ) → runAfterRow r (l ++ m) ≡ runAfterRow (runAfterRow r l) m
+unfolding runAfterRow
+runAfterRow-append r [] m = refl
+runAfterRow-append r (b ∷ l) m = runAfterRow-append (runAfter r b) l m
 
-pub stuffCount-append : (r : Run) (l m : List ℕ) → stuffCount r (l ++ m) ≡ stuffCount r l + stuffCount (runBehind r l) m
-unfolding stuffCount runBehind
+pub stuffCount-append : (r : Run) (l m : List ℕ) → stuffCount r (l ++ m) ≡ stuffCount r l + stuffCount (runAfterRow r l) m
+unfolding stuffCount runAfterRow
 stuffCount-append r [] m = omega arith
 stuffCount-append r (b ∷ l) m = omega (arith, stuffCount-append (runAfter r b) l m)

@@ -1,3 +1,4 @@
 pub mod Rows
 pub mod Neighbours
 pub mod Stuffing
+pub mod Calm
