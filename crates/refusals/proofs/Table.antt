@@ -1,8 +1,9 @@
 -- The table of refusals tells its rows apart. Assumes nothing.
 --     refusal-back     the number and the place of a refusal give the refusal back
---     refusal-only     refusals with one number and one place are one, so no two variants share a number
+--     number-only      the number alone decides the variant: no two variants share one
+--     refusal-only     refusals with one number and one place are one
 --     number-in-table  a refusal's number is 1 to 14, never the 0 that means none
-use mathlib.Core.Path.{_≡_, refl, sym, ap₂, _∙_}
+use mathlib.Core.Path.{_≡_, refl, sym, ap, _∙_}
 use mathlib.Core.Bool.{_&&_}
 use mathlib.Core.List.{List, [], _∷_}
 use Prim.Native.Nat.{ℕ, _-_, _≤_}
@@ -56,8 +57,11 @@ in-its-row (Record offset) = (refl, tt)
 pub refusal-back : (r : Refusal) → refusalOf (numberOf r) (placeOf r) ≡ r
 refusal-back r = in-its-row r .0
 
+pub number-only : (a b : Refusal) → numberOf a ≡ numberOf b → a ≡ refusalOf (numberOf b) (placeOf a)
+number-only a b n = sym (refusal-back a) ∙ ap (λ (k : ℕ). refusalOf k (placeOf a)) n
+
 pub refusal-only : (a b : Refusal) → numberOf a ≡ numberOf b → placeOf a ≡ placeOf b → a ≡ b
-refusal-only a b n p = sym (refusal-back a) ∙ ap₂ refusalOf n p ∙ refusal-back b
+refusal-only a b n p = number-only a b n ∙ ap (refusalOf (numberOf b)) p ∙ refusal-back b
 
 pub number-in-table : (r : Refusal) → (1 ≤ numberOf r) × (numberOf r ≤ 14)
 number-in-table r =

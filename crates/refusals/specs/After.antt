@@ -5,11 +5,7 @@ use lib.ListN.{length, drop}
 use Rattle.refusals.specs.declared.Answer.{Answer}
 use Rattle.refusals.specs.declared.Answer.the-variants.{Length, Refused}
 
--- the result, and behind it the old bytes
-abbrev pub written : List ℕ → List ℕ → List ℕ
-written result old = result ++ drop (length result) old
-
--- on success only the bytes of the result are written; a refusal leaves the old bytes
+-- on success the result, and behind it the old bytes; after a refusal the old bytes
 abbrev pub after : Answer → List ℕ → List ℕ → List ℕ
-after (Length n) result old = written result old
+after (Length n) result old = result ++ drop (length result) old
 after (Refused refusal) result old = old
