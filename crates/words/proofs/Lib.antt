@@ -1,4 +1,4 @@
+pub mod Words
 pub mod Places
 pub mod Lists
-pub mod Words
 pub mod Symbols

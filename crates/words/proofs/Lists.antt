@@ -5,32 +5,29 @@ use mathlib.Core.Path.{_≡_, refl, sym, ap, _∙_}
 use mathlib.Core.Bool.{Bool, true, false, cond}
 use mathlib.Core.List.{map}
 use Prim.Native.Nat.{ℕ, zero, suc, _+_, _≤_, _<_}
-use native.Mathlib.Nat.{add-comm, not-suc-le-zero, le-of-suc-le-suc}
+use native.Mathlib.Nat.{not-suc-le-zero, le-of-suc-le-suc}
 use native.Mathlib.Omega.{arith}
 use lib.Dec.{ltb}
 use lib.ListN.{getD}
-use lib.Seq.{getD-take, getD-drop}
 use borrow.Author.Tests.{ltb-true, ltb-false}
-use Rattle.bits.specs.Rows.{bits}
-use Rattle.bits.specs.Neighbours.{equalNeighbours}
 use Rattle.words.specs.Words.{numbersFrom, words, wordOf}
 use Rattle.words.specs.Symbols.{placeIn}
 use Rattle.words.specs.Lists.{wordList, reverseList, placeBy}
+use Rattle.words.proofs.Words.{words-258, words-below}
 use Rattle.words.proofs.Places.{place-none}
-
-pub word-list-at : (x : ℕ) → x < 256 → getD wordList x 0 ≡ wordOf x
-unfolding wordList wordOf
-word-list-at x h = rw (getD-take, getD-drop, add-comm 1 x)
 
 numbers-at : (f : ℕ → ℕ) (a n k : ℕ) → k < n → getD (map f (numbersFrom a n)) k 0 ≡ f (a + k)
 numbers-at f a zero k h = absurd (not-suc-le-zero h)
 numbers-at f a (suc n) zero h = ap f (omega arith)
 numbers-at f a (suc n) (suc k) h = numbers-at f (suc a) n k (le-of-suc-le-suc h) ∙ ap f (omega arith)
 
+pub word-list-at : (x : ℕ) → x < 256 → getD wordList x 0 ≡ wordOf x
+unfolding wordList
+word-list-at x h = numbers-at wordOf 0 256 x h ∙ ap wordOf (omega arith)
+
 -- no number above 511 is among the words
 no-word-above : (nine : ℕ) → 512 ≤ nine → placeIn words nine ≡ 258
-unfolding bits equalNeighbours words
-no-word-above nine h = place-none 512 words tt nine h
+no-word-above nine h = place-none 512 words (λ i k. words-below i (omega (arith, words-258))) nine h ∙ words-258
 
 pub reverse-list-at : (nine : ℕ) → placeBy reverseList nine ≡ placeIn words nine
 unfolding reverseList

@@ -3,30 +3,23 @@
 --     place-found    what stands at the place of a number is that number
 --     place-at       in a rising list what stands at a place has that place
 use mathlib.Core.Path.{_≡_, refl, ap}
-use mathlib.Core.Bool.{Bool, true, false, _&&_, cond}
+use mathlib.Core.Bool.{Bool, true, false, cond}
 use mathlib.Core.List.{List, [], _∷_}
-use Prim.Native.Nat.{ℕ, zero, suc, _≤_, _<_}
+use Prim.Native.Nat.{ℕ, zero, suc, _≤_, _<_, suc-le-suc}
 use native.Mathlib.Nat.{not-suc-le-zero, le-of-suc-le-suc}
 use native.Mathlib.Omega.{arith}
-use lib.Dec.{T, eqb, ltb, ltb→lt}
+use lib.Dec.{T, eqb}
 use lib.ListN.{length, getD}
 use borrow.Author.Tests.{eq-eqb, ne-eqb, eqb-true}
-use mir.Facts.{and-yes}
 use Rattle.bits.proofs.Rising.{rising, rising-tail, rising-at}
 use Rattle.words.specs.Symbols.{placeIn}
 
--- each number of the list is below n
-abbrev pub allBelow : ℕ → List ℕ → Bool
-allBelow n [] = true
-allBelow n (x ∷ l) = ltb x n && allBelow n l
-
-pub place-none : (n : ℕ) (l : List ℕ) → T (allBelow n l) → (w : ℕ) → n ≤ w → placeIn l w ≡ length l
+pub place-none : (n : ℕ) (l : List ℕ) → ((i : ℕ) → i < length l → getD l i 0 < n) → (w : ℕ) → n ≤ w → placeIn l w ≡ length l
 unfolding placeIn
-place-none n [] t w h = refl
-place-none n (x ∷ l) t w h =
-    let both = and-yes (ltb x n) (allBelow n l) t in
-    let b : x < n = ltb→lt x n (both .0) in
-    rw (ne-eqb x w (λ e. omega arith)) (ap suc (place-none n l (both .1) w h))
+place-none n [] below w h = refl
+place-none n (x ∷ l) below w h =
+    let first : x < n = below 0 (omega arith) in
+    rw (ne-eqb x w (λ e. omega arith)) (ap suc (place-none n l (λ i k. below (suc i) (suc-le-suc k)) w h))
 
 pub place-found : (l : List ℕ) (w : ℕ) → placeIn l w < length l → getD l (placeIn l w) 0 ≡ w
 unfolding placeIn

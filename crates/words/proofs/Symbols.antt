@@ -14,8 +14,7 @@ use Rattle.bits.specs.Rows.{bits}
 use Rattle.bits.specs.Neighbours.{equalNeighbours}
 use Rattle.bits.proofs.Everywhere.{everywhere-at}
 use Rattle.words.specs.Words.{keepsRule, words, wordOf}
-use Rattle.words.specs.Symbols.{placeIn, symbolAt, symbolOf}
-use Rattle.words.specs.declared.Symbol.{Symbol}
+use Rattle.words.specs.Symbols.{placeIn, symbolAt, symbolOf, something}
 use Rattle.words.specs.declared.Symbol.the-variants.{Byte, Escape, Nothing}
 use Rattle.words.proofs.Places.{place-found, place-at}
 use Rattle.words.proofs.Words.{words-258, words-rising}
@@ -50,12 +49,6 @@ unfolding symbolOf wordOf
 word-only nine x e =
     let p = byte-place (placeIn words nine) x e in
     (sym (place-found words nine (omega (arith, words-258))) ∙ ap (λ (k : ℕ). getD words k 0) (p .0), p .1)
-
--- the nine bits stand for a byte or an escape
-abbrev pub something : Symbol → Bool
-something (Byte x) = true
-something Escape = true
-something Nothing = false
 
 pub something-exactly : (nine : ℕ) → nine < 512 → something (symbolOf nine) ≡ keepsRule (bits 9 nine)
 unfolding bits equalNeighbours words placeIn symbolOf

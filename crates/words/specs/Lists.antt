@@ -3,13 +3,13 @@ use Prim.Native.Nat.{ℕ}
 use mathlib.Core.Bool.{cond}
 use mathlib.Core.List.{List, map}
 use lib.Dec.{ltb}
-use lib.ListN.{getD, take, drop}
-use Rattle.words.specs.Words.{numbersFrom, words}
+use lib.ListN.{getD}
+use Rattle.words.specs.Words.{numbersFrom, words, wordOf}
 use Rattle.words.specs.Symbols.{placeIn}
 
--- the words of the 256 bytes: all words but J and K
+-- the word of each of the 256 bytes
 unfoldable pub wordList : List ℕ
-wordList = take 256 (drop 1 words)
+wordList = map wordOf (numbersFrom 0 256)
 
 -- the place of each of the 512 nine-bit numbers among the words
 unfoldable pub reverseList : List ℕ

@@ -1,6 +1,6 @@
 -- What nine bits stand for. Assumes nothing.
 use Prim.Native.Nat.{ℕ, suc, _-_}
-use mathlib.Core.Bool.{cond}
+use mathlib.Core.Bool.{Bool, true, false, cond}
 use mathlib.Core.List.{List, [], _∷_}
 use lib.Dec.{eqb, ltb}
 use Rattle.words.specs.Words.{words}
@@ -22,3 +22,9 @@ symbolAt place =
 -- what the nine bits of a number stand for
 unfoldable pub symbolOf : ℕ → Symbol
 symbolOf nine = symbolAt (placeIn words nine)
+
+-- a byte or an escape
+abbrev pub something : Symbol → Bool
+something (Byte x) = true
+something Escape = true
+something Nothing = false

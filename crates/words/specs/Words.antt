@@ -1,6 +1,6 @@
 -- The words, by document 01's ordering rule. Assumes nothing.
 use Prim.Native.Nat.{ℕ, zero, suc, _+_}
-use mathlib.Core.Bool.{Bool, true, false, not, _&&_}
+use mathlib.Core.Bool.{Bool, not, cond, _&&_}
 use mathlib.Core.List.{List, [], _∷_}
 use lib.ListN.{getD, take, drop}
 use Rattle.bits.specs.Rows.{bits}
@@ -19,11 +19,7 @@ numbersFrom a (suc n) = a ∷ numbersFrom (suc a) n
 -- those numbers of a list whose nine bits are a word
 abbrev pub wordsAmong : List ℕ → List ℕ
 wordsAmong [] = []
-wordsAmong (w ∷ l) = kept (keepsRule (bits 9 w)) (wordsAmong l)
-  where
-    kept : Bool → List ℕ → List ℕ
-    kept true rest = w ∷ rest
-    kept false rest = rest
+wordsAmong (w ∷ l) = let rest = wordsAmong l in cond (keepsRule (bits 9 w)) (w ∷ rest) rest
 
 -- all words, ordered as nine-bit numbers: J first, K last
 unfoldable pub words : List ℕ

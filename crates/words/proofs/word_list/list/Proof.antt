@@ -2,13 +2,13 @@
 use Rattle.bits.proofs.Same.{same-eq}
 use Rattle.bits.specs.Rows.{bits}
 use Rattle.bits.specs.Neighbours.{equalNeighbours}
-use Rattle.words.specs.Words.{words}
+use Rattle.words.specs.Words.{words, wordOf}
 use Rattle.words.specs.Lists.{wordList}
 use Rattle.words.proofs.word_list.list.Statement.{statement}
 use Rattle.words.proofs.word_list.list.Tie as tie
 
 returns : tie.Need-returns
-unfolding bits equalNeighbours words wordList
+unfolding bits equalNeighbours words wordOf wordList
 returns c = same-eq _ _ tt
 
 pub list-spec : {M : Type 1} → statement M
