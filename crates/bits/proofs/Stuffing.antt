@@ -1,8 +1,8 @@
 -- The laws of stuffing. Assumes nothing.
---     stuff-starts-run      five bits 1 draw a stuff bit 0, that is the first of five bits 0, and a run that a sent bit starts counts too
+--     stuff-starts-run      a worked row: a stuff bit, or a bit of the other value, is the first of the next five
 --     stuffed-length        a row as it is sent has the row's bits and its stuff bits
---     runAfterRow-append      rows one behind the other: the run that they leave
---     stuffCount-append     the stuff bits that they draw
+--     runAfterRow-append    rows one behind the other: the run that they leave
+--     stuffCount-append     and the stuff bits that they draw
 use mathlib.Core.Path.{_≡_, refl}
 use mathlib.Core.List.{List, [], _∷_, _++_}
 use Prim.Native.Nat.{ℕ, _+_}

@@ -1,12 +1,13 @@
 -- The laws of the words. Assumes nothing.
---     words-258                       there are exactly 258 words
---     J-is, K-is                      the first is 001000010, the last 110111101
---     words-rise                      the list of words is strictly increasing
---     words-below, word-below         a word is a nine-bit number
---     words-keep-rule, word-keeps-rule    every word keeps the rule
---     words-calm, word-calm           every word is calm
---     word-order                      a greater byte has a greater word
---     word-of-complement              the word of 255 - x is the bitwise complement of the word of x
+--     words-258             there are exactly 258 words
+--     J-is, K-is            the first is 001000010, the last 110111101
+--     words-rise            the list of words is strictly increasing
+--     words-below           a word is a nine-bit number
+--     words-keep-rule       every word keeps the rule
+--     words-calm            every word is calm
+--     word-below, word-keeps-rule, word-calm, word-order
+--                           the same of the word of a byte
+--     word-of-complement    the word of 255 - x is the bitwise complement of the word of x
 use mathlib.Core.Path.{_≡_, refl}
 use mathlib.Core.List.{[], _∷_, map}
 use Prim.Native.Nat.{ℕ, _+_, _-_, _<_}

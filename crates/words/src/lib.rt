@@ -33,7 +33,7 @@ pub fn word_in(list: &[u16; 256], x: u8) -> u16
     list[x as usize]
 }
 
-// What nine bits stand for, as a number; one above 511 stands for nothing.
+// What nine bits, given as a number, stand for; a number above 511 stands for nothing.
 pub fn look_up(nine: u16) -> Symbol
     ensures { λ r. ⌜ r ≡ symbolOf nine ⌝ }
 {
