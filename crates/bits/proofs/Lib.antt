@@ -1,5 +1,10 @@
-pub mod Same
 pub mod Everywhere
+pub mod Below
+pub mod Rows
+pub mod Same
+pub mod Packing
+pub mod Filling
 pub mod Rising
 pub mod Stuffing
+pub mod Neighbours
 pub mod Calm

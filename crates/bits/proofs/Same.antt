@@ -1,16 +1,19 @@
--- Two lists of numbers are the same, by one test that is computed over both. Assumes nothing.
-use mathlib.Core.Path.{_≡_, refl, ap₂}
+-- The laws of the test whether two lists are the same. Assumes nothing.
+--     same-eq        lists that pass it are equal
+--     eq-same        equal lists pass it
+--     same-number    of two rows of one length it compares the numbers that they write
+use mathlib.Core.Path.{_≡_, refl, sym, ap, ap₂, _∙_, subst}
 use mathlib.Core.Bool.{Bool, true, false, _&&_}
 use mathlib.Core.List.{List, [], _∷_}
 use Prim.Native.Nat.{ℕ}
 use lib.Dec.{T, eqb, eqb→eq}
+use lib.ListN.{length}
 use mir.Facts.{and-yes}
-
-abbrev pub same : List ℕ → List ℕ → Bool
-same [] [] = true
-same [] (y ∷ m) = false
-same (x ∷ l) [] = false
-same (x ∷ l) (y ∷ m) = eqb x y && same l m
+use borrow.Author.Tests.{eq-eqb, eqb-true, eqb-false}
+use Rattle.bits.specs.Below.{Below}
+use Rattle.bits.specs.Rows.{number}
+use Rattle.bits.specs.Same.{same}
+use Rattle.bits.proofs.Rows.{number-only}
 
 pub same-eq : (l m : List ℕ) → T (same l m) → l ≡ m
 same-eq [] [] t = refl
@@ -19,3 +22,18 @@ same-eq (x ∷ l) [] t = absurd t
 same-eq (x ∷ l) (y ∷ m) t =
     let both = and-yes (eqb x y) (same l m) t in
     ap₂ _∷_ (eqb→eq x y (both .0)) (same-eq l m (both .1))
+
+pub eq-same : (l : List ℕ) → same l l ≡ true
+eq-same [] = refl
+eq-same (x ∷ l) = rw (eq-eqb x x refl) (eq-same l)
+
+pub same-number : (l m : List ℕ) → Below 2 l → Below 2 m → length l ≡ length m → same l m ≡ eqb (number 0 l) (number 0 m)
+same-number l m h g e = go (same l m) refl (eqb (number 0 l) (number 0 m)) refl
+  where
+    go : (a : Bool) → same l m ≡ a → (b : Bool) → eqb (number 0 l) (number 0 m) ≡ b → a ≡ b
+    go true p true q = refl
+    go true p false q = absurd (eqb-false (number 0 l) (number 0 m) q (ap (number 0) (same-eq l m (subst T (sym p) tt))))
+    go false p true q =
+        let equal : l ≡ m = number-only l m h g e (eqb-true (number 0 l) (number 0 m) q) in
+        sym p ∙ ap (same l) (sym equal) ∙ eq-same l
+    go false p false q = refl

@@ -1,4 +1,7 @@
+pub mod Same
+pub mod Below
 pub mod Rows
+pub mod Packing
 pub mod Neighbours
 pub mod Stuffing
 pub mod Calm

@@ -1,11 +1,12 @@
 -- What the two lists hold at each place. Assumes nothing.
+--     numbers-at         a list made from the numbers 0, 1 and so on holds at k what is made from k
 --     word-list-at       at x stands the word of byte x
 --     reverse-list-at    at nine bits stands their place among the words
 use mathlib.Core.Path.{_≡_, refl, sym, ap, _∙_}
 use mathlib.Core.Bool.{Bool, true, false, cond}
 use mathlib.Core.List.{map}
 use Prim.Native.Nat.{ℕ, zero, suc, _+_, _≤_, _<_}
-use native.Mathlib.Nat.{not-suc-le-zero, le-of-suc-le-suc}
+use native.Mathlib.Nat.{zero-add, not-suc-le-zero, le-of-suc-le-suc}
 use native.Mathlib.Omega.{arith}
 use lib.Dec.{ltb}
 use lib.ListN.{getD}
@@ -16,14 +17,17 @@ use Rattle.words.specs.Lists.{wordList, reverseList, placeBy}
 use Rattle.words.proofs.Words.{words-258, words-below}
 use Rattle.words.proofs.Places.{place-none}
 
-numbers-at : (f : ℕ → ℕ) (a n k : ℕ) → k < n → getD (map f (numbersFrom a n)) k 0 ≡ f (a + k)
-numbers-at f a zero k h = absurd (not-suc-le-zero h)
-numbers-at f a (suc n) zero h = ap f (omega arith)
-numbers-at f a (suc n) (suc k) h = numbers-at f (suc a) n k (le-of-suc-le-suc h) ∙ ap f (omega arith)
+from-at : {A : Type 0} (f : ℕ → A) (d : A) (a n k : ℕ) → k < n → getD (map f (numbersFrom a n)) k d ≡ f (a + k)
+from-at f d a zero k h = absurd (not-suc-le-zero h)
+from-at f d a (suc n) zero h = ap f (omega arith)
+from-at f d a (suc n) (suc k) h = from-at f d (suc a) n k (le-of-suc-le-suc h) ∙ ap f (omega arith)
+
+pub numbers-at : {A : Type 0} (f : ℕ → A) (d : A) (n k : ℕ) → k < n → getD (map f (numbersFrom 0 n)) k d ≡ f k
+numbers-at f d n k h = from-at f d 0 n k h ∙ ap f (zero-add k)
 
 pub word-list-at : (x : ℕ) → x < 256 → getD wordList x 0 ≡ wordOf x
 unfolding wordList
-word-list-at x h = numbers-at wordOf 0 256 x h ∙ ap wordOf (omega arith)
+word-list-at x h = numbers-at wordOf 0 256 x h
 
 -- no number above 511 is among the words
 no-word-above : (nine : ℕ) → 512 ≤ nine → placeIn words nine ≡ 258
@@ -34,5 +38,5 @@ unfolding reverseList
 reverse-list-at nine = go (ltb nine 512) refl
   where
     go : (t : Bool) → ltb nine 512 ≡ t → cond t (getD reverseList nine 0) 258 ≡ placeIn words nine
-    go true e = numbers-at (placeIn words) 0 512 nine (ltb-true nine 512 e) ∙ ap (placeIn words) (omega arith)
+    go true e = numbers-at (placeIn words) 0 512 nine (ltb-true nine 512 e)
     go false e = sym (no-word-above nine (ltb-false nine 512 e))

@@ -18,7 +18,8 @@ use Rattle.bits.specs.Rows.{bits}
 use Rattle.bits.specs.Neighbours.{equalNeighbours}
 use Rattle.bits.specs.Stuffing.{stuffAfter, runAfter, stuffCount, runAfterRow}
 use Rattle.bits.proofs.Everywhere.{everywhere-at}
-use Rattle.bits.proofs.Same.{same, same-eq}
+use Rattle.bits.specs.Same.{same}
+use Rattle.bits.proofs.Same.{same-eq}
 use Rattle.bits.proofs.Rising.{rising, rising-at}
 use Rattle.bits.specs.Calm.{Calm}
 use Rattle.bits.proofs.Calm.{isCalm, calm-row}

@@ -1,0 +1,9 @@
+pub mod PaddingBits
+pub mod FieldBits
+pub mod FieldParts
+pub mod ReadingField
+pub mod Accepted
+pub mod RoundTrip
+pub mod Lengths
+pub mod Examples
+pub mod FieldCalm

@@ -1,0 +1,18 @@
+-- The data field by size: document 01's table. Assumes nothing.
+use Prim.Native.Nat.{ℕ, zero, suc, _+_, _-_, _*_, _%_}
+use mathlib.Core.List.{List, [], _∷_}
+use lib.ListN.{length}
+
+-- the bytes of a field, which are the DLC: one more than the payload's, but none for the empty payload
+abbrev pub fieldBytes : ℕ → ℕ
+fieldBytes zero = 0
+fieldBytes (suc size) = suc (suc size)
+
+-- the break bit of a field of n bytes: the complement of the lowest bit of the DLC; the empty field has none
+abbrev pub breakBit : ℕ → List ℕ
+breakBit zero = []
+breakBit (suc n) = (1 - suc n % 2) ∷ []
+
+-- how many bits the break bit and the words leave for padding
+abbrev pub paddingBits : ℕ → ℕ
+paddingBits size = 8 * fieldBytes size - (length (breakBit (fieldBytes size)) + 9 * size)

@@ -1,0 +1,52 @@
+// The data field of a payload of 0 to 7 bytes: coded and decoded.
+//
+// On success only the bytes of the result are written; after a refusal the lent buffer holds its old bytes.
+ghost use mathlib.Core.Path.{_≡_};
+ghost use lib.ListN.{length};
+ghost use Rattle.refusals.specs.After.{after};
+ghost use Rattle.field.specs.Field.{fieldOf};
+ghost use Rattle.field.specs.Encode.{encodeAnswer};
+ghost use Rattle.field.specs.Decode.{decodeAnswer, payloadOf};
+
+mod bytes;
+mod decoding;
+mod encoding;
+mod padding;
+pub mod rows;
+
+use decoding::Reading;
+use refusals::Answer;
+use refusals::Refusal;
+
+// Codes a payload: the length of its field, which stands at the start of `field`. Refused with 1 or 2.
+pub fn encode(payload: &[u8], field: &mut [u8]) -> Answer
+    ensures answer { λ r. ⌜ r ≡ encodeAnswer (now (payload .entry)) (length (now (field .entry))) ⌝ }
+    ensures memory { λ r. ⌜ now (field .exit) ≡ after r (fieldOf (now (payload .entry))) (now (field .entry)) ⌝ }
+{
+    let size = payload.len();
+    if 7 < size {
+        return Answer::Refused(Refusal::PayloadTooLong);
+    }
+    let row = rows::row_of(size);
+    if field.len() < row.bytes {
+        return Answer::Refused(Refusal::RoomShort);
+    }
+    let number = encoding::field_number(payload, row);
+    bytes::store(number, row.bytes, field);
+    Answer::Length(row.bytes)
+}
+
+// Decodes a field: the length of its payload, which stands at the start of `payload`. Refused with 2 to 7.
+pub fn decode(field: &[u8], payload: &mut [u8]) -> Answer
+    ensures answer { λ r. ⌜ r ≡ decodeAnswer (now (field .entry)) (length (now (payload .entry))) ⌝ }
+    ensures memory { λ r. ⌜ now (payload .exit) ≡ after r (payloadOf (now (field .entry))) (now (payload .entry)) ⌝ }
+{
+    match decoding::read(field, payload.len()) {
+        Reading::Payload(number) => {
+            let size = decoding::size_of(field.len());
+            bytes::store(number, size, payload);
+            Answer::Length(size)
+        }
+        Reading::Refused(refusal) => Answer::Refused(refusal),
+    }
+}

@@ -1,0 +1,70 @@
+// Document 01's table: what the size of a payload decides of its field.
+ghost use mathlib.Core.Path.{_≡_};
+ghost use Prim.Native.Nat.{_<_};
+ghost use Rattle.field.specs.Rows.{rowOf, rows};
+
+// The field's bytes, which are the DLC; its break bit, 0 in the empty field, which has none; its bits of padding.
+pub struct Row {
+    pub bytes: usize,
+    pub break_bit: u64,
+    pub padding: usize,
+}
+
+const ROWS: [Row; 8] = [
+    Row {
+        bytes: 0,
+        break_bit: 0,
+        padding: 0,
+    },
+    Row {
+        bytes: 2,
+        break_bit: 1, // DLC 2
+        padding: 6,
+    },
+    Row {
+        bytes: 3,
+        break_bit: 0, // DLC 3
+        padding: 5,
+    },
+    Row {
+        bytes: 4,
+        break_bit: 1, // DLC 4
+        padding: 4,
+    },
+    Row {
+        bytes: 5,
+        break_bit: 0, // DLC 5
+        padding: 3,
+    },
+    Row {
+        bytes: 6,
+        break_bit: 1, // DLC 6
+        padding: 2,
+    },
+    Row {
+        bytes: 7,
+        break_bit: 0, // DLC 7
+        padding: 1,
+    },
+    Row {
+        bytes: 8,
+        break_bit: 1, // DLC 8
+        padding: 0,
+    },
+];
+
+// The rows of the sizes 0 to 7.
+pub fn table() -> [Row; 8]
+    ensures { λ r. ⌜ r ≡ rows ⌝ }
+{
+    ROWS
+}
+
+// The row of a size.
+pub(crate) fn row_of(size: usize) -> Row
+    requires { ⌜ size < 8 ⌝ }
+    ensures { λ r. ⌜ r ≡ rowOf size ⌝ }
+{
+    let rows = table();
+    rows[size]
+}
