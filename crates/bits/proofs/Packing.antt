@@ -17,7 +17,7 @@ use Rattle.bits.specs.Below.{Below}
 use Rattle.bits.specs.Rows.{bits, number}
 use Rattle.bits.specs.Packing.{unpacked, packed}
 use Rattle.bits.proofs.Below.{below-append, below-take, below-drop}
-use Rattle.bits.proofs.Rows.{bits-length, bits-below, bits-split, number-append, number-bits, number-below, bits-number}
+use Rattle.bits.proofs.Rows.{bits-length, bits-below, bits-split, number-append, number-bits, bits-number}
 
 pub unpacked-length : (k : ℕ) (l : List ℕ) → length (unpacked k l) ≡ length l * k
 unfolding unpacked

@@ -11,7 +11,6 @@ use mathlib.Core.Path.{_≡_, refl, sym, ap, ap₂, _∙_}
 use mathlib.Core.List.{List, [], _∷_, _++_}
 use Prim.Native.Nat.{ℕ, zero, suc, _+_, _*_, _/_, _%_, _^_, _<_}
 use native.Mathlib.Nat.{zero-add, add-zero, suc-add, add-comm, add-assoc, zero-mul, mul-one, add-mul, mul-assoc, pow-zero, pow-succ', mod-lt, mod-one}
-use native.Mathlib.Omega.{arith}
 use lib.Arith.{digits-lt, digits-mod, mod-mul}
 use lib.Dec.{lit<}
 use lib.ListN.{length}

@@ -5,16 +5,16 @@
 --     fieldBits-length, fieldBits-below
 --     field-number        the number of a field's bits, from the parts that the code puts together
 --     field-number-below  it has no more than 64 bits
---     field-of-number     the bytes of that number are the field
 --     field-length        the field has the bytes that the table says
+--     field-stored        the bytes of that number are the field
 --     bits-of-field       the bits of the field's bytes are the field's bits
-use mathlib.Core.Path.{_≡_, refl, sym, ap, ap₂, _∙_}
+use mathlib.Core.Path.{_≡_, refl, sym, ap, _∙_}
 use mathlib.Core.List.{List, _++_, map}
-use Prim.Native.Nat.{ℕ, zero, suc, _+_, _-_, _*_, _%_, _^_, _≤_, _<_}
+use Prim.Native.Nat.{ℕ, zero, suc, _+_, _-_, _*_, _^_, _≤_, _<_}
 use native.Mathlib.Nat.{lt-of-lt-of-le, mul-comm}
 use native.Mathlib.Omega.{arith}
 use lib.Dec.{lit<}
-use lib.ListN.{length, take, length-append, length-map}
+use lib.ListN.{length, drop, length-append, length-map}
 use lib.Pow.{pow-mono}
 use lib.Seq.{take-all}
 use Rattle.bits.specs.Below.{Below}
@@ -95,17 +95,19 @@ field-number-below payload h =
     lt-of-lt-of-le (number-below (fieldBits payload) (fieldBits-below payload))
     (pow-mono {j = 64} (omega (arith, fieldBits-length payload h, fieldBytes-few (length payload) h)))
 
-pub field-of-number : (payload : List ℕ) → length payload ≤ 7 →
-    let n = fieldBytes (length payload) in
-    packed 8 n (bits (8 * n) (number 0 (fieldBits payload))) ≡ fieldOf payload
-unfolding fieldOf
-field-of-number payload h =
-    ap (packed 8 (fieldBytes (length payload)))
-    (ap (λ (n : ℕ). bits n (number 0 (fieldBits payload))) (sym (fieldBits-length payload h)) ∙ bits-number 0 (fieldBits payload) (fieldBits-below payload))
-
 pub field-length : (payload : List ℕ) → length (fieldOf payload) ≡ fieldBytes (length payload)
 unfolding fieldOf
 field-length payload = packed-length 8 (fieldBytes (length payload)) (fieldBits payload)
+
+-- the n bytes of a number, put over the start of a list, where the number is the field's and n its bytes
+pub field-stored : (payload old : List ℕ) (v n : ℕ) → length payload ≤ 7 → v ≡ number 0 (fieldBits payload) → n ≡ fieldBytes (length payload)
+    → packed 8 n (bits (8 * n) v) ++ drop n old ≡ fieldOf payload ++ drop (length (fieldOf payload)) old
+unfolding fieldOf
+field-stored payload old v n h ev en =
+    let bytes = fieldBytes (length payload) in
+    rw (ev, en, field-length payload)
+    (ap (λ (l : List ℕ). packed 8 bytes l ++ drop bytes old)
+    (ap (λ (k : ℕ). bits k (number 0 (fieldBits payload))) (sym (fieldBits-length payload h)) ∙ bits-number 0 (fieldBits payload) (fieldBits-below payload)))
 
 pub bits-of-field : (payload : List ℕ) → length payload ≤ 7 → unpacked 8 (fieldOf payload) ≡ fieldBits payload
 unfolding fieldOf

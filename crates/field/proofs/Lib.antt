@@ -1,5 +1,6 @@
 pub mod PaddingBits
 pub mod FieldBits
+pub mod EncodeAnswers
 pub mod FieldParts
 pub mod ReadingField
 pub mod Accepted

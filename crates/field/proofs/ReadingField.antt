@@ -1,13 +1,12 @@
 -- What the code reads out of a field is what the definition of decoding says. Assumes nothing.
---     payload-below       what words stand for gives bytes
---     payload-packed      the bytes of the payload's number are the payload
---     decode-refused-length, decode-refused-room, decode-refused-break
---     body-tells          the words and the padding decide the answer, and of an accepted field the payload
+--     payload-below, payload-length    what the words carry are bytes, as many as there are words
+--     payload-stored    the bytes of the payload's number are the payload
+--     decode-one, decode-long, decode-short, decode-broken    3, 3, 2 and 4
+--     body-tells        the words and the padding decide the rest, and of an accepted field the payload
 use mathlib.Core.Path.{_≡_, refl, sym, ap, ap₂, _∙_}
 use mathlib.Core.Bool.{Bool, true, false, cond, not}
-use mathlib.Core.List.{List, [], _∷_, map, append-nil}
-use Prim.Native.Nat.{ℕ, zero, suc, _+_, _-_, _*_, _/_, _%_, _^_, _≤_, _<_}
-use native.Mathlib.Nat.{mul-comm}
+use mathlib.Core.List.{List, [], _∷_, _++_, map, append-nil}
+use Prim.Native.Nat.{ℕ, _+_, _-_, _*_, _/_, _^_, _≤_, _<_}
 use native.Mathlib.Omega.{arith}
 use lib.Dec.{lit<, eqb}
 use lib.ListN.{length, drop, length-map}
@@ -29,7 +28,7 @@ use Rattle.field.specs.Decode.{sizeOf, breakBits, wordsPart, symbolsOf, 
 use Rattle.field.specs.Reading.{padded, readBody, Tells}
 use Rattle.field.specs.declared.decoding.Reading.{Reading}
 use Rattle.field.specs.declared.decoding.Reading.the-variants.{Payload, Refused}
-use Rattle.field.proofs.FieldParts.{MayBe, bodyBits, numberOf, words-part, break-test, padding-test}
+use Rattle.field.proofs.FieldParts.{MayBe, bodyBits, fieldNumber, words-part, break-test, padding-test}
 
 -- ---- the payload
 
@@ -55,7 +54,7 @@ payload-length field =
     length-map (symbolsOf field) byteOf ∙ length-map (wordsPart field) symbolOf
     ∙ packed-length 9 (sizeOf field) (drop (breakBits field) (unpacked 8 field))
 
-pub payload-packed : (field : List ℕ) → packed 8 (sizeOf field) (bits (8 * sizeOf field) (number 0 (unpacked 8 (payloadOf field)))) ≡ payloadOf field
+payload-packed : (field : List ℕ) → packed 8 (sizeOf field) (bits (8 * sizeOf field) (number 0 (unpacked 8 (payloadOf field)))) ≡ payloadOf field
 payload-packed field =
     let payload = payloadOf field in
     let row = unpacked 8 payload in
@@ -63,18 +62,43 @@ payload-packed field =
     ap₂ (packed 8) (sym (payload-length field)) (ap (λ (n : ℕ). bits n (number 0 row)) (sym long) ∙ bits-number 0 row (unpacked-below 8 payload) ∙ sym (append-nil row))
     ∙ packed-unpacked 8 payload [] (payload-below field)
 
+-- the n bytes of a number, put over the start of a list, where the number's bytes are the payload and n is their count
+pub payload-stored : (field old : List ℕ) (v n : ℕ) → packed 8 (sizeOf field) (bits (8 * sizeOf field) v) ≡ payloadOf field → n ≡ sizeOf field
+    → packed 8 n (bits (8 * n) v) ++ drop n old ≡ payloadOf field ++ drop (length (payloadOf field)) old
+payload-stored field old v n e en =
+    rw (en, payload-length field) (ap (λ (l : List ℕ). l ++ drop (sizeOf field) old) e)
+
 -- ---- the answer
 
+pub decode-one : (field : List ℕ) (room : ℕ) → length field ≡ 1 → decodeAnswer field room ≡ answer.Refused (refusal.FieldLength 0)
+unfolding decodeAnswer
+decode-one field room h = simp (eq-eqb _ _ h)
+
+pub decode-long : (field : List ℕ) (room : ℕ) → (length field ≡ 1 → ⊥) → 8 < length field → decodeAnswer field room ≡ answer.Refused (refusal.FieldLength 0)
+unfolding decodeAnswer
+decode-long field room h g = simp (ne-eqb _ _ h, lt-ltb _ _ g)
+
+pub decode-short : (field : List ℕ) (room : ℕ) → MayBe field → room < sizeOf field → decodeAnswer field room ≡ answer.Refused refusal.RoomShort
+unfolding decodeAnswer
+decode-short field room may h = simp (ne-eqb _ _ (may .not-one), le-ltb _ _ (may .at-most), lt-ltb _ _ h)
+
 -- a field whose length may be, with room for its payload: what is cut out of its number decides
-pub decode-body : (field : List ℕ) (room : ℕ) → MayBe field → sizeOf field ≤ room
+decode-body : (field : List ℕ) (room : ℕ) → MayBe field → sizeOf field ≤ room
     → decodeAnswer field room
-    ≡ cond (not (eqb (numberOf field / 2 ^ bodyBits field) (number 0 (breakBit (length field))))) (answer.Refused refusal.BreakBit)
-    (wordsAnswer 0 (map symbolOf (packed 9 (sizeOf field) (bits (bodyBits field) (numberOf field))))
-    (cond (not (padded (paddingBits (sizeOf field)) (numberOf field))) (answer.Refused refusal.Padding) (answer.Length (sizeOf field))))
+    ≡ cond (not (eqb (fieldNumber field / 2 ^ bodyBits field) (number 0 (breakBit (length field))))) (answer.Refused refusal.BreakBit)
+    (wordsAnswer 0 (map symbolOf (packed 9 (sizeOf field) (bits (bodyBits field) (fieldNumber field))))
+    (cond (not (padded (paddingBits (sizeOf field)) (fieldNumber field))) (answer.Refused refusal.Padding) (answer.Length (sizeOf field))))
 unfolding decodeAnswer
 decode-body field room may h =
     simp (ne-eqb _ _ (may .not-one), le-ltb _ _ (may .at-most), le-ltb _ _ h)
     (rw (break-test field may, padding-test field may, words-part field may))
+
+-- `high` and `bit` are the field's first bit and the right one, as the code has them
+pub decode-broken : (field : List ℕ) (room high bit : ℕ) → MayBe field → sizeOf field ≤ room
+    → high ≡ fieldNumber field / 2 ^ bodyBits field → bit ≡ number 0 (breakBit (length field)) → (high ≡ bit → ⊥)
+    → decodeAnswer field room ≡ answer.Refused refusal.BreakBit
+decode-broken field room high bit may h eh eb ne =
+    decode-body field room may h ∙ simp (ne-eqb _ _ (λ e. ne (eh ∙ e ∙ sym eb)))
 
 -- what reading says beside an answer for a payload of `size` bytes that are the number `bytes`
 abbrev Said : Reading → Answer → ℕ → ℕ → Type 0
@@ -109,15 +133,15 @@ said-tells field room (Payload b) said =
     (said .0, ap (λ (n : ℕ). packed 8 (sizeOf field) (bits (8 * sizeOf field) n)) (said .1) ∙ payload-packed field)
 said-tells field room (Refused r) said = said
 
-pub body-tells : (field : List ℕ) (room : ℕ) → MayBe field → sizeOf field ≤ room
-    → numberOf field / 2 ^ bodyBits field ≡ number 0 (breakBit (length field))
-    → Tells (readBody (padded (paddingBits (sizeOf field)) (numberOf field)) 0 0 (map symbolOf (packed 9 (sizeOf field) (bits (bodyBits field) (numberOf field))))) field room
+pub body-tells : (field : List ℕ) (room high bit : ℕ) → MayBe field → sizeOf field ≤ room
+    → high ≡ fieldNumber field / 2 ^ bodyBits field → bit ≡ number 0 (breakBit (length field)) → high ≡ bit
+    → Tells (readBody (padded (paddingBits (sizeOf field)) (fieldNumber field)) 0 0 (map symbolOf (packed 9 (sizeOf field) (bits (bodyBits field) (fieldNumber field))))) field room
 unfolding payloadOf
-body-tells field room may h e =
-    let ok = padded (paddingBits (sizeOf field)) (numberOf field) in
-    let nines = packed 9 (sizeOf field) (bits (bodyBits field) (numberOf field)) in
+body-tells field room high bit may h eh eb e =
+    let ok = padded (paddingBits (sizeOf field)) (fieldNumber field) in
+    let nines = packed 9 (sizeOf field) (bits (bodyBits field) (fieldNumber field)) in
     let decided : decodeAnswer field room
     ≡ wordsAnswer 0 (map symbolOf nines) (cond (not ok) (answer.Refused refusal.Padding) (answer.Length (sizeOf field)))
-    = decode-body field room may h ∙ simp (eq-eqb _ _ e) in
+    = decode-body field room may h ∙ simp (eq-eqb _ _ (sym eh ∙ e ∙ eb)) in
     said-tells field room (readBody ok 0 0 (map symbolOf nines))
     (rw (decided, words-part field may) (words-said ok 0 0 (sizeOf field) nines))

@@ -1,39 +1,33 @@
 -- Coding and decoding undo each other, of the definitions. Assumes nothing.
---     encode-accepts      (a) a payload of at most 7 bytes is accepted where its field has room
---     decode-encode       (a) its field is accepted where the payload has room
+--     decode-encode       (a) the field of a payload of at most 7 bytes is accepted where the payload has room
 --     payload-of-field    (a) and gives the payload back
 --     field-of-payload    (b) whatever decoding accepts is the field of its payload
 --     one-payload         (b) payloads with one field are one
 --     one-field           (b) accepted fields with one payload are one
 use mathlib.Core.Path.{_≡_, refl, sym, ap, ap₂, _∙_}
-use mathlib.Core.Bool.{Bool, true, false, cond}
 use mathlib.Core.List.{List, [], _∷_, _++_, map, append-nil}
-use Prim.Native.Nat.{ℕ, zero, suc, _+_, _-_, _*_, _^_, _≤_, _<_}
+use Prim.Native.Nat.{ℕ, zero, suc, _+_, _-_, _*_, _≤_}
 use native.Mathlib.Nat.{mul-comm}
 use native.Mathlib.Omega.{arith}
-use lib.Dec.{lit<, eqb, ltb}
-use lib.ListN.{length, take, drop, getD, length-map, length-drop, take-append-drop}
+use lib.ListN.{length, take, drop, length-map, length-drop, take-append-drop}
 use lib.Seq.{take-at, drop-at, drop-drop}
-use borrow.Author.Tests.{ne-eqb, le-ltb, ltb-false}
+use borrow.Author.Tests.{ne-eqb, le-ltb}
 use Rattle.bits.specs.Below.{Below}
 use Rattle.bits.specs.Packing.{unpacked, packed}
 use Rattle.bits.specs.Same.{same}
 use Rattle.bits.proofs.Below.{below-drop}
 use Rattle.bits.proofs.Same.{eq-same}
-use Rattle.bits.proofs.Packing.{unpacked-length, unpacked-below, packed-unpacked, unpacked-packed}
+use Rattle.bits.proofs.Packing.{unpacked-below, packed-unpacked, unpacked-packed}
 use Rattle.refusals.specs.declared.Answer.{Answer}
-use Rattle.refusals.specs.declared.Answer.the-variants.{Length, Refused}
-use Rattle.refusals.specs.declared.Refusal.the-variants.{PayloadTooLong, RoomShort}
+use Rattle.refusals.specs.declared.Answer.the-variants.{Length}
 use Rattle.words.specs.Words.{wordOf}
 use Rattle.words.specs.Symbols.{symbolOf}
-use Rattle.words.specs.declared.Symbol.{Symbol}
 use Rattle.words.specs.declared.Symbol.the-variants.{Byte}
 use Rattle.words.proofs.Words.{word-below}
 use Rattle.words.proofs.Symbols.{word-back, word-only}
 use Rattle.field.specs.Sizes.{fieldBytes, breakBit, paddingBits}
 use Rattle.field.specs.Padding.{padding}
 use Rattle.field.specs.Field.{wordBits, fieldBits, fieldOf}
-use Rattle.field.specs.Encode.{encodeAnswer}
 use Rattle.field.specs.Decode.{sizeOf, breakBits, breakPart, wordsPart, paddingPart, symbolsOf, wordsAnswer, decodeAnswer, byteOf, payloadOf}
 use Rattle.field.proofs.FieldBits.{fieldBytes-few, wordBits-length, field-length, bits-of-field}
 use Rattle.field.proofs.FieldParts.{field-bytes-back, field-bits}
@@ -41,11 +35,6 @@ use Rattle.field.proofs.ReadingField.{payload-length, payload-below}
 use Rattle.field.proofs.Accepted.{Accepted, accepted}
 
 -- ---- encode, then decode
-
-pub encode-accepts : (payload : List ℕ) (room : ℕ) → length payload ≤ 7 → fieldBytes (length payload) ≤ room
-    → encodeAnswer payload room ≡ Length (fieldBytes (length payload))
-unfolding encodeAnswer
-encode-accepts payload room h g = simp (le-ltb _ _ h, le-ltb _ _ g)
 
 -- the payload's size from the field's bytes
 size-back : (size : ℕ) → fieldBytes size - 1 ≡ size

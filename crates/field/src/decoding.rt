@@ -2,7 +2,6 @@
 ghost use mathlib.Core.Path.{_≡_};
 ghost use mathlib.Core.List.{map};
 ghost use Prim.Native.Nat.{_+_, _-_, _*_, _/_, _%_, _^_, _≤_, _<_};
-ghost use lib.ListN.{length};
 ghost use Rattle.bits.specs.Rows.{bits};
 ghost use Rattle.bits.specs.Packing.{packed};
 ghost use Rattle.words.specs.Symbols.{symbolOf};

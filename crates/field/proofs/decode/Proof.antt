@@ -1,16 +1,14 @@
 -- `field::decode` meets its contract: what was read decides both the answer and what is written. Assumes nothing.
 use mathlib.Core.Path.{_≡_, refl, sym, ap, _∙_, subst}
-use mathlib.Core.List.{List, _++_}
-use Prim.Native.Nat.{ℕ, _≤_}
 use native.Mathlib.Omega.{arith}
-use lib.ListN.{length, drop}
+use lib.ListN.{length}
 use borrow.Author.Needs.{needs}
-use Rattle.field.specs.Decode.{sizeOf, decodeAnswer, payloadOf}
+use Rattle.refusals.specs.declared.Answer.the-variants.{Length}
 use Rattle.field.specs.Reading.{Tells}
 use Rattle.field.specs.declared.decoding.Reading.{Reading}
-use Rattle.field.specs.declared.decoding.Reading.the-variants.{Payload, Refused}
+use Rattle.field.specs.declared.decoding.Reading.the-variants.{Payload}
 use Rattle.field.proofs.Accepted.{accepted}
-use Rattle.field.proofs.ReadingField.{payload-length}
+use Rattle.field.proofs.ReadingField.{payload-stored}
 use Rattle.field.proofs.decode.Statement.{statement}
 use Rattle.field.proofs.decode.Tie as tie
 
@@ -48,12 +46,9 @@ same-length c = search needs
 
 returns : tie.Need-returns
 returns c =
-    let sized = c .before .before .before .before in
-    let field = sized .before .before .before .before .before .before .before .args .field .now in
-    let old = sized .before .before .before .before .before .before .before .args .payload .now in (
-      rw (sized .size-of .ensures) (sym (payload sized .0)),
-      c .before .before .store .ensures
-          ∙ rw (sized .size-of .ensures, payload-length field) (ap (λ (l : List ℕ). l ++ drop (sizeOf field) old) (payload sized .1)),
+    let sized = c .before .before .before .before in (
+      ap Length (sized .size-of .ensures) ∙ sym (payload sized .0),
+      c .before .before .store .ensures ∙ payload-stored _ _ _ _ (payload sized .1) (sized .size-of .ensures),
     )
 
 returns-2 : tie.Need-returns-2

@@ -1,11 +1,10 @@
 -- `field::bytes::load` meets its contract. The invariant: the bytes that are left, behind the number so far, give the whole number;
 -- and the number so far has i bytes. Assumes nothing.
 use mathlib.Core.Path.{_≡_, refl, sym, _∙_}
-use Prim.Native.Nat.{ℕ, suc, _+_, _*_, _-_, _^_, _≤_, _<_}
+use Prim.Native.Nat.{ℕ, suc, _-_, _^_, _≤_, _<_}
 use native.Mathlib.Nat.{pow-le-pow-right}
 use native.Mathlib.Numerals.{add-one}
 use native.Mathlib.Omega.{arith}
-use borrow.Author.Needs.{needs}
 use lib.Dec.{lit<}
 use lib.ListN.{length, drop, getD}
 use lib.Pow.{pow-add}

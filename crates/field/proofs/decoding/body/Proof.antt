@@ -1,6 +1,6 @@
 -- `field::decoding::body` meets its contract. The invariant: the words that are left, behind the bytes so far, lead where all of
 -- them lead; and the bytes so far are i. Assumes nothing.
-use mathlib.Core.Path.{_≡_, refl, sym, ap, _∙_}
+use mathlib.Core.Path.{_≡_, _∙_}
 use mathlib.Core.Bool.{cond}
 use mathlib.Core.List.{_∷_, map}
 use Prim.Native.Nat.{ℕ, _+_, _*_, _-_, _/_, _%_, _^_, _≤_, _<_}

@@ -4,7 +4,6 @@ use Prim.Native.Nat.{ℕ, _+_, _*_, _^_, _≤_, _<_}
 use native.Mathlib.Nat.{mod-eq-of-lt}
 use native.Mathlib.Omega.{arith}
 use borrow.Author.Needs.{needs}
-use lib.Dec.{lit<}
 use lib.ListN.{length}
 use Rattle.bits.specs.Rows.{number}
 use Rattle.field.specs.Sizes.{fieldBytes, breakBit, paddingBits}
@@ -38,7 +37,7 @@ shl-result : tie.Need-shl-result
 shl-result c = omega (arith, pad-few (c .before .before .before .before))
 
 number-of-requires : tie.Need-number-of-requires
-number-of-requires c κs = (lit< tt, pad-few (c .before .before .before .before))
+number-of-requires c κs = (omega arith, pad-few (c .before .before .before .before))
 
 -- the two parts, before the shift's own bound is looked at
 whole : (c : tie.After-number-of)

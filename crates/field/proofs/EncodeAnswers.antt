@@ -1,0 +1,27 @@
+-- The answers of encoding, one law for each. Assumes nothing.
+--     encode-long       1, a payload of more than 7 bytes
+--     encode-short      2, room short
+--     encode-accepts    (a) a payload of at most 7 bytes is accepted where its field has room
+use mathlib.Core.Path.{_≡_}
+use mathlib.Core.List.{List}
+use Prim.Native.Nat.{ℕ, _≤_, _<_}
+use lib.ListN.{length}
+use borrow.Author.Tests.{lt-ltb, le-ltb}
+use Rattle.refusals.specs.declared.Answer.the-variants.{Length, Refused}
+use Rattle.refusals.specs.declared.Refusal.the-variants.{PayloadTooLong, RoomShort}
+use Rattle.field.specs.Sizes.{fieldBytes}
+use Rattle.field.specs.Encode.{encodeAnswer}
+
+pub encode-long : (payload : List ℕ) (room : ℕ) → 7 < length payload → encodeAnswer payload room ≡ Refused PayloadTooLong
+unfolding encodeAnswer
+encode-long payload room h = simp (lt-ltb _ _ h)
+
+pub encode-short : (payload : List ℕ) (room : ℕ) → length payload ≤ 7 → room < fieldBytes (length payload)
+    → encodeAnswer payload room ≡ Refused RoomShort
+unfolding encodeAnswer
+encode-short payload room h g = simp (le-ltb _ _ h, lt-ltb _ _ g)
+
+pub encode-accepts : (payload : List ℕ) (room : ℕ) → length payload ≤ 7 → fieldBytes (length payload) ≤ room
+    → encodeAnswer payload room ≡ Length (fieldBytes (length payload))
+unfolding encodeAnswer
+encode-accepts payload room h g = simp (le-ltb _ _ h, le-ltb _ _ g)
