@@ -1,70 +1,100 @@
 -- Equal neighbours and stuffing. Assumes nothing.
---     no-five-neighbours    a row that draws no stuff bit has no five equal neighbours
-use mathlib.Core.Path.{_≡_, refl, subst}
-use mathlib.Core.Bool.{Bool, true, false, cond, _&&_}
+--     no-stuff-exactly      a row draws no stuff bit exactly when it has no five equal neighbours
+--     no-five-neighbours    so a row that draws none has no five equal neighbours
+use mathlib.Core.Path.{_≡_, refl, sym, ap, _∙_}
+use mathlib.Core.Bool.{Bool, true, false, not, cond, _&&_, _||_, Bool·not-not}
 use mathlib.Core.List.{List, [], _∷_}
 use Prim.Native.Nat.{ℕ, zero, suc, _+_, _-_, _≤_}
-use native.Mathlib.Nat.{not-suc-le-zero, le-of-suc-le-suc}
+use native.Mathlib.Nat.{zero-add, not-suc-le-zero, le-of-suc-le-suc}
 use native.Mathlib.Omega.{arith}
-use lib.Dec.{T, eqb}
+use lib.Arith.{le-of-le-suc-ne}
+use lib.Dec.{eqb}
 use lib.ListN.{length}
-use borrow.Author.Tests.{eqb-true, eqb-false, eq-eqb}
+use borrow.Author.Tests.{eqb-true, eqb-false, eq-eqb, ne-eqb}
 use Rattle.bits.specs.Neighbours.{begins, equalNeighbours}
 use Rattle.bits.specs.Stuffing.{Run, nothingSent, counted, fifth, stuffAfter, runAfter, stuffCount}
 
--- a row that does not begin with m bits b does not begin with more of them
-begins-more : (m n b : ℕ) (l : List ℕ) → m ≤ n → begins m b l ≡ false → begins n b l ≡ false
-begins-more zero n b l h e = absurd (subst T e tt)
-begins-more (suc m) zero b l h e = absurd (not-suc-le-zero h)
-begins-more (suc m) (suc n) b [] h e = refl
-begins-more (suc m) (suc n) b (x ∷ l) h e = go (eqb x b) e (begins-more m n b l (le-of-suc-le-suc h))
-  where
-    go : (t : Bool) → (t && begins m b l) ≡ false → (begins m b l ≡ false → begins n b l ≡ false) → (t && begins n b l) ≡ false
-    go true q rest = rest q
-    go false q rest = refl
+-- five equal bits in a row behind a run, those of the run counted
+five : Run → List ℕ → Bool
+five r l = begins (5 - r .count) (r .bit) l || equalNeighbours 5 l
 
-not-fifth : (r : Run) (b : ℕ) → length (stuffAfter r b) ≡ 0 → fifth r b ≡ false
-unfolding stuffAfter
-not-fifth r b e = go (fifth r b) e
+-- who begins with n bits b begins with fewer of them
+begins-fewer : (m n b : ℕ) (l : List ℕ) (rest : Bool) → m ≤ n → (begins m b l || (begins n b l || rest)) ≡ (begins m b l || rest)
+begins-fewer zero n b l rest h = refl
+begins-fewer (suc m) zero b l rest h = absurd (not-suc-le-zero h)
+begins-fewer (suc m) (suc n) b [] rest h = refl
+begins-fewer (suc m) (suc n) b (x ∷ l) rest h = go (eqb x b) (begins-fewer m n b l rest (le-of-suc-le-suc h))
   where
-    go : (five : Bool) → length (cond five ((1 - b) ∷ []) []) ≡ 0 → five ≡ false
-    go true q = absurd (omega arith)
-    go false q = refl
+    go : (t : Bool) → (begins m b l || (begins n b l || rest)) ≡ (begins m b l || rest)
+        → ((t && begins m b l) || ((t && begins n b l) || rest)) ≡ ((t && begins m b l) || rest)
+    go true e = e
+    go false e = refl
 
--- the next bit goes on with a run of n bits, or starts another
-counts : (r : Run) (b : ℕ) → (1 ≤ counted r b) × (counted r b ≤ r .count + 1)
-counts r b = go (eqb b (r .bit))
-  where
-    go : (same : Bool) → (1 ≤ cond same (r .count + 1) 1) × (cond same (r .count + 1) 1 ≤ r .count + 1)
-    go true = (omega arith, omega arith)
-    go false = (omega arith, omega arith)
+begins-self : (n b : ℕ) (l : List ℕ) → begins (suc n) b (b ∷ l) ≡ begins n b l
+begins-self n b l = rw (eq-eqb b b refl)
 
--- the bits that would make five with a run are not behind it, if they are not with the run that the next bit leaves
-begins-on : (r : Run) (b : ℕ) (l : List ℕ) → r .count ≤ 4 → begins (5 - counted r b) b l ≡ false → begins (5 - r .count) (r .bit) (b ∷ l) ≡ false
-begins-on r b l h e =
-    let some : 5 - r .count ≡ suc (4 - r .count) = omega arith in
-    rw some (go (eqb b (r .bit)) refl e)
+-- b goes on with the run, or starts another, and there are not yet five
+next-five : (r : Run) (b : ℕ) (l : List ℕ) → r .count ≤ 4 → five (record { bit = b; count = counted r b }) l ≡ five r (b ∷ l)
+unfolding five equalNeighbours
+next-five r b l h = go (eqb b (r .bit)) refl ∙ ap (λ (t : Bool). begins (5 - r .count) (r .bit) (b ∷ l) || (t || equalNeighbours 5 l)) (sym (begins-self 4 b l))
   where
-    go : (same : Bool) → eqb b (r .bit) ≡ same → begins (5 - cond same (r .count + 1) 1) b l ≡ false → (same && begins (4 - r .count) (r .bit) l) ≡ false
-    go true p q =
+    some : 5 - r .count ≡ suc (4 - r .count)
+    some = omega arith
+
+    go : (t : Bool) → eqb b (r .bit) ≡ t
+        → (begins (5 - cond t (r .count + 1) 1) b l || equalNeighbours 5 l) ≡ (begins (5 - r .count) (r .bit) (b ∷ l) || (begins 4 b l || equalNeighbours 5 l))
+    go true e =
         let next : 5 - (r .count + 1) ≡ 4 - r .count = omega arith in
-        rw (next, eqb-true b (r .bit) p) at q
-    go false p q = refl
+        let same : r .bit ≡ b = sym (eqb-true b (r .bit) e) in
+        rw (next, some, same, eq-eqb b b refl) (sym (begins-fewer (4 - r .count) 4 b l (equalNeighbours 5 l) (omega arith)))
+    go false e = rw (some, e)
 
--- where a run of at most four bits and a row behind it draw no stuff bit
-none-behind : (r : Run) (l : List ℕ) → r .count ≤ 4 → stuffCount r l ≡ 0
-    → (begins (5 - r .count) (r .bit) l ≡ false) × (equalNeighbours 5 l ≡ false)
-unfolding runAfter stuffCount equalNeighbours
-none-behind r [] h e = let some : 5 - r .count ≡ suc (4 - r .count) = omega arith in (rw some, refl)
-none-behind r (b ∷ l) h e =
-    let no : fifth r b ≡ false = not-fifth r b (omega arith) in
-    let fewer : counted r b ≡ 5 → ⊥ = eqb-false (counted r b) 5 no in
-    let on : runAfter r b ≡ record { bit = b; count = counted r b } = rw no in
-    let rest : stuffCount (runAfter r b) l ≡ 0 = omega arith in
-    let behind = none-behind (record { bit = b; count = counted r b }) l (omega (arith, counts r b)) (rw on at rest) in (
-      begins-on r b l h (behind .0),
-      rw (eq-eqb b b refl, begins-more (5 - counted r b) 4 b l (omega (arith, counts r b)) (behind .0)) (behind .1),
-    )
+-- where b makes five
+fifth-five : (r : Run) (b : ℕ) (l : List ℕ) → r .count ≤ 4 → fifth r b ≡ true → five r (b ∷ l) ≡ true
+unfolding five
+fifth-five r b l h e = go (eqb b (r .bit)) refl (eqb-true (counted r b) 5 e)
+  where
+    go : (t : Bool) → eqb b (r .bit) ≡ t → cond t (r .count + 1) 1 ≡ 5 → five r (b ∷ l) ≡ true
+    go true p q = let last : 5 - r .count ≡ 1 = omega arith in rw (last, p)
+    go false p q = absurd (omega arith)
+
+counted-few : (r : Run) (b : ℕ) → r .count ≤ 4 → counted r b ≤ 5
+counted-few r b h = go (eqb b (r .bit))
+  where
+    go : (t : Bool) → cond t (r .count + 1) 1 ≤ 5
+    go true = omega arith
+    go false = omega arith
+
+none-behind : (r : Run) (l : List ℕ) → r .count ≤ 4 → eqb (stuffCount r l) 0 ≡ not (five r l)
+unfolding stuffAfter runAfter stuffCount five equalNeighbours
+none-behind r [] h = let some : 5 - r .count ≡ suc (4 - r .count) = omega arith in rw some
+none-behind r (b ∷ l) h = go (fifth r b) refl (none-behind (record { bit = b; count = counted r b }) l)
+  where
+    go : (t : Bool) → fifth r b ≡ t
+        → (counted r b ≤ 4 → eqb (stuffCount (record { bit = b; count = counted r b }) l) 0 ≡ not (five (record { bit = b; count = counted r b }) l))
+        → eqb (length (cond t ((1 - b) ∷ []) []) + stuffCount (cond t (record { bit = 1 - b; count = 1 }) (record { bit = b; count = counted r b })) l) 0
+        ≡ not (five r (b ∷ l))
+    go true e rest =
+        let some : 1 + stuffCount (record { bit = 1 - b; count = 1 }) l ≡ 0 → ⊥ = λ none. omega arith in
+        ne-eqb _ _ some ∙ sym (ap not (fifth-five r b l h e))
+    go false e rest =
+        let fewer : counted r b ≡ 5 → ⊥ = eqb-false (counted r b) 5 e in
+        ap (λ (n : ℕ). eqb n 0) (zero-add (stuffCount (record { bit = b; count = counted r b }) l))
+        ∙ rest (le-of-le-suc-ne (counted-few r b h) fewer)
+        ∙ ap not (next-five r b l h)
+
+-- no run reaches in from before the row
+nothing-five : (l : List ℕ) → five nothingSent l ≡ equalNeighbours 5 l
+unfolding five equalNeighbours
+nothing-five [] = refl
+nothing-five (b ∷ l) = go (eqb b 0) refl
+  where
+    go : (t : Bool) → eqb b 0 ≡ t → ((t && begins 4 0 l) || ((eqb b b && begins 4 b l) || equalNeighbours 5 l)) ≡ ((eqb b b && begins 4 b l) || equalNeighbours 5 l)
+    go true e = rw (eqb-true b 0 e) (begins-fewer 4 4 0 l (equalNeighbours 5 l) (omega arith))
+    go false e = refl
+
+pub no-stuff-exactly : (l : List ℕ) → eqb (stuffCount nothingSent l) 0 ≡ not (equalNeighbours 5 l)
+no-stuff-exactly l = none-behind nothingSent l (omega arith) ∙ ap not (nothing-five l)
 
 pub no-five-neighbours : (l : List ℕ) → stuffCount nothingSent l ≡ 0 → equalNeighbours 5 l ≡ false
-no-five-neighbours l e = none-behind nothingSent l (omega arith) e .1
+no-five-neighbours l e = sym (Bool·not-not (equalNeighbours 5 l)) ∙ ap not (sym (no-stuff-exactly l) ∙ eq-eqb _ _ e)

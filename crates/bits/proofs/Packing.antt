@@ -34,7 +34,7 @@ unpacked-below k (x ∷ l) = below-append 2 (bits k x) (unpacked k l) (bits-belo
 pub packed-length : (k n : ℕ) (l : List ℕ) → length (packed k n l) ≡ n
 unfolding packed
 packed-length k zero l = refl
-packed-length k (suc n) l = ap suc (packed-length k n (drop k l))
+packed-length k (suc n) l = ap suc (packed-length k n _)
 
 -- the number of a number's k bits is that number
 number-of-bits : (k x : ℕ) → x < 2 ^ k → number 0 (bits k x) ≡ x

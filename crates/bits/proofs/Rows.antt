@@ -21,12 +21,12 @@ use Rattle.bits.specs.Rows.{bits, number}
 pub bits-length : (k n : ℕ) → length (bits k n) ≡ k
 unfolding bits
 bits-length zero n = refl
-bits-length (suc k) n = ap suc (bits-length k n)
+bits-length (suc k) n = ap suc (bits-length k _)
 
 pub bits-below : (k n : ℕ) → Below 2 (bits k n)
 unfolding bits
 bits-below zero n = tt
-bits-below (suc k) n = (mod-lt (n / 2 ^ k) (lit< tt), bits-below k n)
+bits-below (suc k) n = (mod-lt _ (lit< tt), bits-below k _)
 
 pub bits-split : (j k n : ℕ) → bits (j + k) n ≡ bits j (n / 2 ^ k) ++ bits k n
 unfolding bits
