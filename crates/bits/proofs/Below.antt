@@ -1,14 +1,9 @@
 -- The laws of lists of numbers below a bound. Assumes nothing.
---     below-at        it is enough to know it at each place
 --     below-append, below-take, below-drop
 use mathlib.Core.List.{List, [], _∷_, _++_}
-use Prim.Native.Nat.{ℕ, zero, suc, _<_}
-use lib.ListN.{getD, take, drop}
+use Prim.Native.Nat.{ℕ, zero, suc}
+use lib.ListN.{take, drop}
 use Rattle.bits.specs.Below.{Below}
-
-pub below-at : (b : ℕ) (l : List ℕ) → ((i : ℕ) → getD l i 0 < b) → Below b l
-below-at b [] h = tt
-below-at b (x ∷ l) h = (h 0, below-at b l (λ i. h (suc i)))
 
 pub below-append : (b : ℕ) (l m : List ℕ) → Below b l → Below b m → Below b (l ++ m)
 below-append b [] m h g = g

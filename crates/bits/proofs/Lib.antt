@@ -1,4 +1,5 @@
 pub mod Everywhere
+pub mod Numbers
 pub mod Below
 pub mod Rows
 pub mod Same

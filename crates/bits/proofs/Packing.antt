@@ -1,30 +1,34 @@
 -- The laws of packing. Assumes nothing.
 --     unpacked-length, unpacked-below    k bits for each number
 --     packed-length       as many numbers as are asked for
+--     packed-below        each of k bits
+--     unpacked-at         number i of an unpacked list stands in the k bits from k * i on
 --     packed-unpacked     what was unpacked is packed again, whatever stands behind it
 --     unpacked-packed     what was packed is unpacked again
+--     packed-number       the numbers in the bits of a list's own number are the list
 --     number-unpacked     the number of an unpacked list, one more of its numbers taken in
 --     packed-bits         the first of the numbers in the bits of a number, and those behind it
 --     packed-next         the same where a loop counts up to n and down the bits: the numbers that are left, and the next of them
 use mathlib.Core.Path.{_≡_, refl, sym, ap, ap₂, _∙_}
-use mathlib.Core.List.{List, [], _∷_, _++_, append-assoc}
+use mathlib.Core.List.{List, [], _∷_, _++_, append-assoc, append-nil}
 use Prim.Native.Nat.{ℕ, zero, suc, _+_, _-_, _*_, _/_, _%_, _^_, _≤_, _<_}
-use native.Mathlib.Nat.{suc-mul, zero-mul, zero-add, mod-eq-of-lt, add-comm}
+use native.Mathlib.Nat.{lt-of-lt-of-le, not-suc-le-zero, le-of-suc-le-suc, zero-mul, mul-zero, mul-suc, zero-add, mod-eq-of-lt, add-comm}
 use native.Mathlib.Omega.{arith}
-use lib.ListN.{length, take, drop, length-append, length-drop}
-use lib.Seq.{take-at, drop-at, take-add, length-take-le}
+use lib.ListN.{length, getD, take, drop, length-append, length-take, length-drop}
+use lib.Pow.{pow-mono}
+use lib.Seq.{take-at, drop-at, drop-drop, take-add, length-take-le}
 use Rattle.bits.specs.Below.{Below}
 use Rattle.bits.specs.Rows.{bits, number}
 use Rattle.bits.specs.Packing.{unpacked, packed}
 use Rattle.bits.proofs.Below.{below-append, below-take, below-drop}
-use Rattle.bits.proofs.Rows.{bits-length, bits-below, bits-split, number-append, number-bits, bits-number}
+use Rattle.bits.proofs.Rows.{bits-length, bits-below, bits-split, number-append, number-bits, number-below, bits-number}
 
-pub unpacked-length : (k : ℕ) (l : List ℕ) → length (unpacked k l) ≡ length l * k
+pub unpacked-length : (k : ℕ) (l : List ℕ) → length (unpacked k l) ≡ k * length l
 unfolding unpacked
-unpacked-length k [] = sym (zero-mul k)
+unpacked-length k [] = sym (mul-zero k)
 unpacked-length k (x ∷ l) =
     length-append (bits k x) (unpacked k l) ∙ ap₂ _+_ (bits-length k x) (unpacked-length k l)
-    ∙ add-comm k (length l * k) ∙ sym (suc-mul (length l) k)
+    ∙ add-comm k (k * length l) ∙ sym (mul-suc k (length l))
 
 pub unpacked-below : (k : ℕ) (l : List ℕ) → Below 2 (unpacked k l)
 unfolding unpacked
@@ -49,15 +53,15 @@ packed-unpacked k (x ∷ l) m h =
     (ap₂ _∷_ (ap (number 0) (take-at (bits k x) rest k (bits-length k x)) ∙ number-of-bits k x (h .0))
     (ap (packed k (length l)) (drop-at (bits k x) rest k (bits-length k x)) ∙ packed-unpacked k l m (h .1)))
 
-pub unpacked-packed : (k n : ℕ) (l : List ℕ) → Below 2 l → n * k ≤ length l → unpacked k (packed k n l) ≡ take (n * k) l
+pub unpacked-packed : (k n : ℕ) (l : List ℕ) → Below 2 l → k * n ≤ length l → unpacked k (packed k n l) ≡ take (k * n) l
 unfolding unpacked packed
-unpacked-packed k zero l h g = ap (λ (m : ℕ). take m l) (sym (zero-mul k))
+unpacked-packed k zero l h g = ap (λ (m : ℕ). take m l) (sym (mul-zero k))
 unpacked-packed k (suc n) l h g =
-    let more : suc n * k ≡ k + n * k = suc-mul n k ∙ add-comm (n * k) k in
+    let more : k * suc n ≡ k + k * n = mul-suc k n ∙ add-comm (k * n) k in
     let first : length (take k l) ≡ k = length-take-le k l (omega arith) in
     ap₂ _++_ (ap (λ (m : ℕ). bits m (number 0 (take k l))) (sym first) ∙ bits-number 0 (take k l) (below-take 2 k l h))
     (unpacked-packed k n (drop k l) (below-drop 2 k l h) (omega (arith, length-drop k l)))
-    ∙ sym (take-add k (n * k) l) ∙ ap (λ (m : ℕ). take m l) (sym more)
+    ∙ sym (take-add k (k * n) l) ∙ ap (λ (m : ℕ). take m l) (sym more)
 
 pub number-unpacked : (k a x : ℕ) (l : List ℕ) → x < 2 ^ k → number a (unpacked k (x ∷ l)) ≡ number (a * 2 ^ k + x) (unpacked k l)
 unfolding unpacked
@@ -80,3 +84,30 @@ packed-next k n i at v h g =
     let count : n - i ≡ suc (n - (i + 1)) = omega arith in
     let down : at ≡ k + (at - k) = omega arith in
     ap₂ (λ (m j : ℕ). packed k m (bits j v)) count down ∙ packed-bits k (n - (i + 1)) (at - k) v
+
+pub packed-number : (k n v : ℕ) (l : List ℕ) → Below (2 ^ k) l → n ≡ length l → v ≡ number 0 (unpacked k l) → packed k n (bits (k * n) v) ≡ l
+packed-number k n v l h en ev =
+    let row = unpacked k l in
+    let long : k * n ≡ length row = ap (k *_) en ∙ sym (unpacked-length k l) in
+    ap₂ (λ (m : ℕ) (r : List ℕ). packed k m r) en (ap₂ bits long ev ∙ bits-number 0 row (unpacked-below k l) ∙ sym (append-nil row))
+    ∙ packed-unpacked k l [] h
+
+pub packed-below : (k n : ℕ) (l : List ℕ) → Below 2 l → Below (2 ^ k) (packed k n l)
+unfolding packed
+packed-below k zero l h = tt
+packed-below k (suc n) l h =
+    let short : length (take k l) ≤ k = omega (arith, length-take k l) in
+    (lt-of-lt-of-le (number-below (take k l) (below-take 2 k l h)) (pow-mono short), packed-below k n (drop k l) (below-drop 2 k l h))
+
+pub unpacked-at : (k d : ℕ) (l m : List ℕ) (i : ℕ) → i < length l → take k (drop (k * i) (unpacked k l ++ m)) ≡ bits k (getD l i d)
+unfolding unpacked
+unpacked-at k d [] m i h = absurd (not-suc-le-zero h)
+unpacked-at k d (x ∷ l) m zero h =
+    ap (λ (n : ℕ). take k (drop n (unpacked k (x ∷ l) ++ m))) (mul-zero k)
+    ∙ rw append-assoc (take-at (bits k x) (unpacked k l ++ m) k (bits-length k x))
+unpacked-at k d (x ∷ l) m (suc i) h =
+    let more : k * suc i ≡ k + k * i = mul-suc k i ∙ add-comm (k * i) k in
+    ap (λ (n : ℕ). take k (drop n (unpacked k (x ∷ l) ++ m))) more
+    ∙ ap (take k) (sym (drop-drop (k * i) k (unpacked k (x ∷ l) ++ m)))
+    ∙ ap (λ (r : List ℕ). take k (drop (k * i) r)) (rw append-assoc (drop-at (bits k x) (unpacked k l ++ m) k (bits-length k x)))
+    ∙ unpacked-at k d l m i (le-of-suc-le-suc h)

@@ -13,7 +13,8 @@ use Rattle.words.specs.Words.{words, wordOf}
 use Rattle.words.specs.Symbols.{placeIn, symbolOf}
 use Rattle.field.specs.Padding.{padding}
 use Rattle.field.specs.Field.{fieldBits, fieldOf}
-use Rattle.field.specs.Decode.{breakPart, wordsPart, paddingPart, decodeAnswer}
+use Rattle.field.specs.Parts.{breakPart, wordsPart, paddingPart}
+use Rattle.field.specs.Decode.{decodeAnswer}
 
 -- a payload codes as a field; a field decodes, with room for seven bytes, to a refusal with its number and place
 pub data Case : Type 0 where

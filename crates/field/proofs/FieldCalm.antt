@@ -1,10 +1,10 @@
--- (c) A field by itself has no five equal neighbours. Assumes nothing.
+-- (c) A field by itself has no five equal neighbours. Quiet means: draws no stuff bit. Assumes nothing.
 --     padding-quiet    padding draws no stuff bit behind a run of at most three
---     words-calm       the words of a payload are calm
+--     payload-calm       the words of a payload are calm
 --     body-quiet       words and padding draw no stuff bit behind a run of at most two
 --     field-quiet      a field draws none where nothing was sent before it
 --     field-no-five    its bits have no five equal neighbours
---     bytes-no-five    and so have the bits of its bytes
+--     bytes-no-five    nor have the bits of its bytes
 use mathlib.Core.Path.{_≡_, refl, ap, _∙_}
 use mathlib.Core.Bool.{Bool, true, false, cond}
 use mathlib.Core.List.{List, [], _∷_, _++_}
@@ -50,15 +50,15 @@ padding-quiet r first (suc count) h g =
     counted-few true = omega arith
     counted-few false = omega arith
 
-pub words-calm : (payload : List ℕ) → Below 256 payload → Calm (wordBits payload)
+pub payload-calm : (payload : List ℕ) → Below 256 payload → Calm (wordBits payload)
 unfolding unpacked stuffCount runAfterRow
-words-calm [] b = λ r h. record { no-stuff = refl; short = h }
-words-calm (x ∷ l) b = calm-append (bits 9 (wordOf x)) (wordBits l) (word-calm x (b .0)) (words-calm l (b .1))
+payload-calm [] b = λ r h. record { no-stuff = refl; short = h }
+payload-calm (x ∷ l) b = calm-append (bits 9 (wordOf x)) (wordBits l) (word-calm x (b .0)) (payload-calm l (b .1))
 
 pub body-quiet : (r : Run) (payload : List ℕ) (first count : ℕ) → Short r → Below 256 payload → first < 2
     → stuffCount r (wordBits payload ++ padding first count) ≡ 0
 body-quiet r payload first count h b g =
-    let words = words-calm payload b r h in
+    let words = payload-calm payload b r h in
     let behind = runAfterRow r (wordBits payload) in
     omega (
       arith,
@@ -71,7 +71,7 @@ body-quiet r payload first count h b g =
 break-calm : (n : ℕ) → CalmAfter nothingSent (breakBit n)
 unfolding stuffAfter runAfter stuffCount runAfterRow
 break-calm zero = record { no-stuff = refl; short = record { bit-is = lit< tt; few = omega arith } }
-break-calm (suc n) = go (1 - suc n % 2) (omega arith)
+break-calm (suc n) = go _ (omega arith)
   where
     go : (b : ℕ) → b < 2 → CalmAfter nothingSent (b ∷ [])
     go zero h = record { no-stuff = refl; short = record { bit-is = lit< tt; few = omega arith } }

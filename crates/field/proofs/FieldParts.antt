@@ -1,100 +1,141 @@
--- The parts of a field, from its number. Assumes nothing.
---     field-bits          how many bits a field has
---     bits-of-bytes       they are those of its number
---     break-part, words-part, padding-part    its parts are cut out of that number
---     break-test, padding-test    and so are the tests of the break bit and of the padding
+-- The parts of a field, cut out of its number. Assumes nothing.
+--     field-bits       how many bits a field has
+--     words-part       the words are cut out of the number
+--     break-right, break-wrong    the break bit is right exactly when the code's numbers for it are equal
+--     padding-test     the padding is right exactly when the number's lowest bits are
+--     payload-below, payload-length    what the words carry are bytes, as many as there are words
 use mathlib.Core.Path.{_≡_, refl, sym, ap, _∙_}
-use mathlib.Core.List.{List, _++_}
-use Prim.Native.Nat.{ℕ, zero, suc, _+_, _-_, _*_, _/_, _^_, _≤_, _<_}
+use mathlib.Core.List.{List, [], _∷_, _++_, map}
+use Prim.Native.Nat.{ℕ, _+_, _*_, _/_, _^_, _≤_, _<_}
 use native.Mathlib.Nat.{zero-mul, zero-add}
 use native.Mathlib.Omega.{arith}
 use lib.Dec.{lit<, eqb}
-use lib.ListN.{length, take, drop}
+use lib.ListN.{length, take, drop, length-map}
 use lib.Pow.{shr-mod}
 use lib.Seq.{take-at, drop-at, drop-drop}
+use Rattle.bits.specs.Below.{Below}
 use Rattle.bits.specs.Rows.{bits, number}
 use Rattle.bits.specs.Packing.{unpacked, packed}
 use Rattle.bits.specs.Same.{same}
-use Rattle.bits.proofs.Rows.{bits-length, bits-below, bits-split, bits-number, number-bits, number-below}
-use Rattle.bits.proofs.Packing.{unpacked-length, unpacked-below}
+use Rattle.bits.proofs.Rows.{bits-length, bits-below, bits-split, bits-number, number-bits, number-below, number-only}
+use Rattle.bits.proofs.Packing.{unpacked-length, unpacked-below, packed-length}
 use Rattle.bits.proofs.Same.{same-number}
+use Rattle.words.specs.Symbols.{symbolOf}
+use Rattle.words.specs.declared.Symbol.{Symbol}
+use Rattle.words.specs.declared.Symbol.the-variants.{Byte, Escape, Nothing}
+use Rattle.words.proofs.Symbols.{word-only}
 use Rattle.field.specs.Sizes.{fieldBytes, breakBit, paddingBits}
 use Rattle.field.specs.Padding.{padding}
-use Rattle.field.specs.Decode.{sizeOf, breakBits, breakPart, wordsPart, paddingPart}
+use Rattle.field.specs.Parts.{sizeOf, wordsStart, breakPart, wordsPart, paddingPart, symbolsOf}
+use Rattle.field.specs.Decode.{byteOf, payloadOf}
 use Rattle.field.specs.Reading.{padded}
+use Rattle.field.proofs.Sizes.{sizes-fill, fieldBytes-back, breakBit-below}
 use Rattle.field.proofs.PaddingBits.{padding-length, padding-below}
-use Rattle.field.proofs.FieldBits.{sizes-fill, breakBit-below}
 
 -- a length that a field may have
-pub record MayBe (field : List ℕ) : Type 0 where
+pub record LengthAllowed (field : List ℕ) : Type 0 where
   pub not-one : length field ≡ 1 → ⊥
   pub at-most : length field ≤ 8
 
-pub field-bytes-back : (n : ℕ) → (n ≡ 1 → ⊥) → fieldBytes (n - 1) ≡ n
-field-bytes-back zero h = refl
-field-bytes-back (suc zero) h = absurd (h refl)
-field-bytes-back (suc (suc n)) h = let less : suc (suc n) - 1 ≡ suc n = omega arith in ap fieldBytes less
+-- a field's bytes as one number, and how many bits of it the words and the padding have
+abbrev pub loaded : List ℕ → ℕ
+loaded field = number 0 (unpacked 8 field)
 
--- how many bits the words and the padding have
 abbrev pub bodyBits : List ℕ → ℕ
 bodyBits field = 9 * sizeOf field + paddingBits (sizeOf field)
 
-abbrev pub fieldNumber : List ℕ → ℕ
-fieldNumber field = number 0 (unpacked 8 field)
-
-pub field-bits : (field : List ℕ) → MayBe field → length (unpacked 8 field) ≡ breakBits field + bodyBits field
-field-bits field may =
-    let back = field-bytes-back (length field) (may .not-one) in
-    let bit : length (breakBit (fieldBytes (sizeOf field))) ≡ breakBits field = ap (λ (n : ℕ). length (breakBit n)) back in
-    unpacked-length 8 field ∙ omega (arith, sizes-fill (sizeOf field) (omega (arith, may .at-most)), back, bit)
-
-pub bits-of-bytes : (field : List ℕ) → MayBe field → unpacked 8 field ≡ bits (breakBits field + bodyBits field) (fieldNumber field)
-bits-of-bytes field may =
-    sym (bits-number 0 (unpacked 8 field) (unpacked-below 8 field)) ∙ ap (λ (n : ℕ). bits n (fieldNumber field)) (field-bits field may)
+pub field-bits : (field : List ℕ) → LengthAllowed field → length (unpacked 8 field) ≡ wordsStart field + bodyBits field
+field-bits field allowed =
+    let back = fieldBytes-back (length field) (allowed .not-one) in
+    let start : length (breakBit (fieldBytes (sizeOf field))) ≡ wordsStart field = ap (λ (n : ℕ). length (breakBit n)) back in
+    unpacked-length 8 field ∙ omega (arith, sizes-fill (sizeOf field) (omega (arith, allowed .at-most)), back, start)
 
 -- the break bit before the rest
-split : (field : List ℕ) → MayBe field
-    → unpacked 8 field ≡ bits (breakBits field) (fieldNumber field / 2 ^ bodyBits field) ++ bits (bodyBits field) (fieldNumber field)
-split field may = bits-of-bytes field may ∙ bits-split (breakBits field) (bodyBits field) (fieldNumber field)
+split : (field : List ℕ) → LengthAllowed field
+    → unpacked 8 field ≡ bits (wordsStart field) (loaded field / 2 ^ bodyBits field) ++ bits (bodyBits field) (loaded field)
+split field allowed =
+    sym (bits-number 0 (unpacked 8 field) (unpacked-below 8 field))
+    ∙ ap (λ (n : ℕ). bits n (loaded field)) (field-bits field allowed)
+    ∙ bits-split (wordsStart field) (bodyBits field) (loaded field)
 
-pub break-part : (field : List ℕ) → MayBe field → breakPart field ≡ bits (breakBits field) (fieldNumber field / 2 ^ bodyBits field)
-unfolding breakPart
-break-part field may = ap (take (breakBits field)) (split field may) ∙ take-at _ _ (breakBits field) (bits-length (breakBits field) _)
+behind-break : (field : List ℕ) → LengthAllowed field → drop (wordsStart field) (unpacked 8 field) ≡ bits (bodyBits field) (loaded field)
+behind-break field allowed =
+    let start = wordsStart field in
+    let high = loaded field / 2 ^ bodyBits field in
+    ap (drop start) (split field allowed) ∙ drop-at (bits start high) (bits (bodyBits field) (loaded field)) start (bits-length start high)
 
-behind-break : (field : List ℕ) → MayBe field → drop (breakBits field) (unpacked 8 field) ≡ bits (bodyBits field) (fieldNumber field)
-behind-break field may =
-    let b = breakBits field in
-    let high = fieldNumber field / 2 ^ bodyBits field in
-    ap (drop b) (split field may) ∙ drop-at (bits b high) (bits (bodyBits field) (fieldNumber field)) b (bits-length b high)
-
-pub words-part : (field : List ℕ) → MayBe field → wordsPart field ≡ packed 9 (sizeOf field) (bits (bodyBits field) (fieldNumber field))
+pub words-part : (field : List ℕ) → LengthAllowed field → wordsPart field ≡ packed 9 (sizeOf field) (bits (bodyBits field) (loaded field))
 unfolding wordsPart
-words-part field may = ap (packed 9 (sizeOf field)) (behind-break field may)
+words-part field allowed = ap (packed 9 (sizeOf field)) (behind-break field allowed)
 
-pub padding-part : (field : List ℕ) → MayBe field → paddingPart field ≡ bits (paddingBits (sizeOf field)) (fieldNumber field)
+-- ---- the break bit
+
+break-part : (field : List ℕ) → LengthAllowed field → breakPart field ≡ bits (wordsStart field) (loaded field / 2 ^ bodyBits field)
+unfolding breakPart
+break-part field allowed = ap (take (wordsStart field)) (split field allowed) ∙ take-at _ _ (wordsStart field) (bits-length (wordsStart field) _)
+
+break-number : (field : List ℕ) → LengthAllowed field → number 0 (breakPart field) ≡ loaded field / 2 ^ bodyBits field
+break-number field allowed =
+    let start = wordsStart field in
+    let few : loaded field < 2 ^ (start + bodyBits field)
+    = rw (field-bits field allowed) at (number-below (unpacked 8 field) (unpacked-below 8 field)) in
+    ap (number 0) (break-part field allowed)
+    ∙ number-bits 0 start (loaded field / 2 ^ bodyBits field)
+    ∙ rw (zero-mul, zero-add) (shr-mod start (bodyBits field) few)
+
+pub break-right : (field : List ℕ) (high bit : ℕ) → LengthAllowed field → high ≡ loaded field / 2 ^ bodyBits field → bit ≡ number 0 (breakBit (length field))
+    → high ≡ bit → breakPart field ≡ breakBit (length field)
+break-right field high bit allowed eh eb e =
+    let long = ap length (break-part field allowed) ∙ bits-length (wordsStart field) (loaded field / 2 ^ bodyBits field) in
+    let below : Below 2 (breakPart field) = rw (break-part field allowed) (bits-below (wordsStart field) (loaded field / 2 ^ bodyBits field)) in
+    number-only (breakPart field) (breakBit (length field)) below (breakBit-below (length field)) long (break-number field allowed ∙ sym eh ∙ e ∙ eb)
+
+pub break-wrong : (field : List ℕ) (high bit : ℕ) → LengthAllowed field → high ≡ loaded field / 2 ^ bodyBits field → bit ≡ number 0 (breakBit (length field))
+    → (high ≡ bit → ⊥) → breakPart field ≡ breakBit (length field) → ⊥
+break-wrong field high bit allowed eh eb ne e = ne (eh ∙ sym (break-number field allowed) ∙ ap (number 0) e ∙ sym eb)
+
+-- ---- the padding
+
+padding-part : (field : List ℕ) → LengthAllowed field → paddingPart field ≡ bits (paddingBits (sizeOf field)) (loaded field)
 unfolding paddingPart
-padding-part field may =
+padding-part field allowed =
     let words = 9 * sizeOf field in
-    let pad = paddingBits (sizeOf field) in
-    sym (drop-drop words (breakBits field) (unpacked 8 field))
-    ∙ ap (drop words) (behind-break field may ∙ bits-split words pad (fieldNumber field))
-    ∙ drop-at (bits words (fieldNumber field / 2 ^ pad)) (bits pad (fieldNumber field)) words (bits-length words (fieldNumber field / 2 ^ pad))
-
-pub break-test : (field : List ℕ) → MayBe field
-    → same (breakPart field) (breakBit (length field)) ≡ eqb (fieldNumber field / 2 ^ bodyBits field) (number 0 (breakBit (length field)))
-break-test field may =
-    let b = breakBits field in
-    let high = fieldNumber field / 2 ^ bodyBits field in
-    let few : fieldNumber field < 2 ^ (b + bodyBits field)
-    = rw (field-bits field may) at (number-below (unpacked 8 field) (unpacked-below 8 field)) in
-    ap (λ (l : List ℕ). same l (breakBit (length field))) (break-part field may)
-    ∙ same-number (bits b high) (breakBit (length field)) (bits-below b high) (breakBit-below (length field)) (bits-length b high)
-    ∙ ap (λ (n : ℕ). eqb n (number 0 (breakBit (length field)))) (number-bits 0 b high ∙ rw (zero-mul, zero-add) (shr-mod b (bodyBits field) few))
-
-pub padding-test : (field : List ℕ) → MayBe field
-    → same (paddingPart field) (padding 0 (paddingBits (sizeOf field))) ≡ padded (paddingBits (sizeOf field)) (fieldNumber field)
-padding-test field may =
     let count = paddingBits (sizeOf field) in
-    ap (λ (l : List ℕ). same l (padding 0 count)) (padding-part field may)
-    ∙ same-number (bits count (fieldNumber field)) (padding 0 count) (bits-below count (fieldNumber field)) (padding-below 0 count (lit< tt)) (bits-length count (fieldNumber field) ∙ sym (padding-length 0 count))
-    ∙ ap (λ (n : ℕ). eqb n (number 0 (padding 0 count))) (number-bits 0 count (fieldNumber field) ∙ rw (zero-mul, zero-add))
+    let high = loaded field / 2 ^ count in
+    sym (drop-drop words (wordsStart field) (unpacked 8 field))
+    ∙ ap (drop words) (behind-break field allowed ∙ bits-split words count (loaded field))
+    ∙ drop-at (bits words high) (bits count (loaded field)) words (bits-length words high)
+
+pub padding-test : (field : List ℕ) → LengthAllowed field
+    → same (paddingPart field) (padding 0 (paddingBits (sizeOf field))) ≡ padded (paddingBits (sizeOf field)) (loaded field)
+padding-test field allowed =
+    let count = paddingBits (sizeOf field) in
+    let row = bits count (loaded field) in
+    let long = bits-length count (loaded field) ∙ sym (padding-length 0 count) in
+    ap (λ (l : List ℕ). same l (padding 0 count)) (padding-part field allowed)
+    ∙ same-number row (padding 0 count) (bits-below count (loaded field)) (padding-below 0 count (lit< tt)) long
+    ∙ ap (λ (n : ℕ). eqb n (number 0 (padding 0 count))) (number-bits 0 count (loaded field) ∙ rw (zero-mul, zero-add))
+
+-- ---- the payload
+
+pub byte-below : (nine : ℕ) → byteOf (symbolOf nine) < 256
+byte-below nine = go (symbolOf nine) refl
+  where
+    go : (y : Symbol) → symbolOf nine ≡ y → byteOf y < 256
+    go (Byte x) e = word-only nine x e .1
+    go Escape e = lit< tt
+    go Nothing e = lit< tt
+
+bytes-below : (nines : List ℕ) → Below 256 (map byteOf (map symbolOf nines))
+bytes-below [] = tt
+bytes-below (nine ∷ l) = (byte-below nine, bytes-below l)
+
+pub payload-below : (field : List ℕ) → Below 256 (payloadOf field)
+unfolding payloadOf
+payload-below field = bytes-below (wordsPart field)
+
+pub payload-length : (field : List ℕ) → length (payloadOf field) ≡ sizeOf field
+unfolding payloadOf wordsPart
+payload-length field =
+    length-map (symbolsOf field) byteOf ∙ length-map (wordsPart field) symbolOf
+    ∙ packed-length 9 (sizeOf field) (drop (wordsStart field) (unpacked 8 field))

@@ -1,10 +1,13 @@
+pub mod Sizes
 pub mod PaddingBits
 pub mod FieldBits
-pub mod EncodeAnswers
+pub mod Stored
 pub mod FieldParts
-pub mod ReadingField
+pub mod EncodeAnswers
+pub mod DecodeAnswers
+pub mod Places
 pub mod Accepted
 pub mod RoundTrip
 pub mod Lengths
-pub mod Examples
 pub mod FieldCalm
+pub mod Examples

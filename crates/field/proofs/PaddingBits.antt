@@ -1,12 +1,14 @@
 -- The laws of padding. Assumes nothing.
 --     padding-length, padding-below    so many bits, each 0 or 1
+--     padding-at        bit i of it
 --     padding-number    its number, cut from eight bits that alternate
-use mathlib.Core.Path.{_≡_, refl, ap}
+use mathlib.Core.Path.{_≡_, refl, ap, _∙_}
 use mathlib.Core.Bool.{Bool}
-use Prim.Native.Nat.{ℕ, zero, suc, _-_, _*_, _/_, _%_, _^_, _≤_, _<_}
+use Prim.Native.Nat.{ℕ, zero, suc, _+_, _-_, _*_, _/_, _%_, _^_, _≤_, _<_}
+use native.Mathlib.Nat.{not-suc-le-zero, le-of-suc-le-suc}
 use native.Mathlib.Omega.{arith}
 use lib.Dec.{eqb, eqb→eq}
-use lib.ListN.{length}
+use lib.ListN.{length, getD}
 use Rattle.bits.specs.Below.{Below}
 use Rattle.bits.specs.Rows.{number}
 use Rattle.bits.proofs.Everywhere.{everywhere, everywhere-at}
@@ -21,6 +23,12 @@ pub padding-below : (first count : ℕ) → first < 2 → Below 2 (padding first
 unfolding padding
 padding-below first zero h = tt
 padding-below first (suc count) h = (h, padding-below (1 - first) count (omega arith))
+
+pub padding-at : (first count i : ℕ) → first < 2 → i < count → getD (padding first count) i 0 ≡ (first + i) % 2
+unfolding padding
+padding-at first zero i h g = absurd (not-suc-le-zero g)
+padding-at first (suc count) zero h g = omega arith
+padding-at first (suc count) (suc i) h g = padding-at (1 - first) count i (omega arith) (le-of-suc-le-suc g) ∙ omega arith
 
 -- the number that the code cuts out is the right one
 cut : ℕ → ℕ → Bool

@@ -1,33 +1,29 @@
--- What reading a field tells before anything is written. Assumes nothing.
+-- What reading a field says before anything is written; no public contract cites it. Assumes nothing.
 use mathlib.Core.Path.{_≡_}
 use Prim.Native.Nat.{ℕ, _+_, _*_, _%_, _^_}
-use mathlib.Core.Bool.{Bool, cond}
-use mathlib.Core.List.{List, [], _∷_}
+use mathlib.Core.Bool.{Bool}
+use mathlib.Core.List.{List, map}
 use lib.Dec.{eqb}
+use lib.ListN.{length}
 use Rattle.bits.specs.Rows.{bits, number}
-use Rattle.bits.specs.Packing.{packed}
+use Rattle.bits.specs.Packing.{unpacked, packed}
+use Rattle.refusals.specs.declared.Answer.{Answer}
 use Rattle.refusals.specs.declared.Answer.the-variants as answer
-use Rattle.refusals.specs.declared.Refusal.the-variants as refusal
+use Rattle.words.specs.Symbols.{symbolOf}
 use Rattle.words.specs.declared.Symbol.{Symbol}
-use Rattle.words.specs.declared.Symbol.the-variants.{Byte, Escape, Nothing}
 use Rattle.field.specs.Padding.{padding}
-use Rattle.field.specs.Decode.{sizeOf, decodeAnswer, payloadOf}
 use Rattle.field.specs.declared.decoding.Reading.{Reading}
 use Rattle.field.specs.declared.decoding.Reading.the-variants.{Payload, Refused}
 
--- the lowest bits of a field's number are its padding
+-- what the words stand for in the number of a field with `count` bits of padding
+abbrev pub symbolsIn : ℕ → ℕ → ℕ → List Symbol
+symbolsIn size count field = map symbolOf (packed 9 size (bits (9 * size + count) field))
+
+-- the lowest `count` bits of a field's number are its padding
 abbrev pub padded : ℕ → ℕ → Bool
 padded count field = eqb (field % 2 ^ count) (number 0 (padding 0 count))
 
--- the bytes of symbols behind those of a, as one number, if the padding is right; or the refusal, the words counted on from `word`
-abbrev pub readBody : Bool → ℕ → ℕ → List Symbol → Reading
-readBody padded word a [] = cond padded (Payload a) (Refused refusal.Padding)
-readBody padded word a (Byte x ∷ l) = readBody padded (word + 1) (a * 256 + x) l
-readBody padded word a (Escape ∷ l) = Refused (refusal.Escape word)
-readBody padded word a (Nothing ∷ l) = Refused (refusal.NoWord word)
-
--- the answer, and of an accepted field the payload's bytes
-abbrev pub Tells : Reading → List ℕ → ℕ → Type 0
-Tells (Payload bytes) field room =
-    (decodeAnswer field room ≡ answer.Length (sizeOf field)) × (packed 8 (sizeOf field) (bits (8 * sizeOf field) bytes) ≡ payloadOf field)
-Tells (Refused r) field room = decodeAnswer field room ≡ answer.Refused r
+-- the answer is the refusal; or it is the payload's length, and the number that of its bytes
+abbrev pub Says : Reading → Answer → List ℕ → Type 0
+Says (Payload bytes) a payload = (a ≡ answer.Length (length payload)) × (bytes ≡ number 0 (unpacked 8 payload))
+Says (Refused r) a payload = a ≡ answer.Refused r

@@ -1,9 +1,10 @@
--- The data field by size: document 01's table. Assumes nothing.
+-- The data field by size: what document 01's table goes by. Payloads have 0 to 7 bytes; above that these numbers mean nothing.
+-- Assumes nothing.
 use Prim.Native.Nat.{ℕ, zero, suc, _+_, _-_, _*_, _%_}
 use mathlib.Core.List.{List, [], _∷_}
 use lib.ListN.{length}
 
--- the bytes of a field, which are the DLC: one more than the payload's, but none for the empty payload
+-- how many bytes the field of a payload has, which is the DLC: one more than the payload, but none for the empty payload
 abbrev pub fieldBytes : ℕ → ℕ
 fieldBytes zero = 0
 fieldBytes (suc size) = suc (suc size)

@@ -2,33 +2,31 @@
 ghost use mathlib.Core.Path.{_≡_};
 ghost use mathlib.Core.List.{map};
 ghost use Prim.Native.Nat.{_+_, _-_, _*_, _/_, _%_, _^_, _≤_, _<_};
-ghost use Rattle.bits.specs.Rows.{bits};
-ghost use Rattle.bits.specs.Packing.{packed};
-ghost use Rattle.words.specs.Symbols.{symbolOf};
-ghost use Rattle.field.specs.Reading.{padded, readBody, Tells};
+ghost use Rattle.field.specs.Decode.{byteOf, wordsAnswer, paddingAnswer, decodeAnswer, payloadOf};
+ghost use Rattle.field.specs.Reading.{symbolsIn, padded, Says};
 use crate::bytes;
 use crate::padding;
-use crate::rows;
+use crate::table;
 use refusals::Refusal;
 use words::Symbol;
 use words::reverse_list;
 
-// The payload's bytes as one number, or why the field is refused.
+// The payload as one number, or why the field is refused.
 pub(crate) enum Reading {
     Payload(u64),
     Refused(Refusal),
 }
 
-// The bytes of the payload of a field of n bytes.
+// How many bytes the payload of a field of n bytes has: none that of the empty field.
 pub(crate) fn size_of(n: usize) -> usize
     ensures { λ r. ⌜ r ≡ n - 1 ⌝ }
 {
     if n == 0 { 0 } else { n - 1 }
 }
 
-// Reads a field whose payload has so much room.
+// Reads a field; `room` is the length of the buffer that its payload would go to.
 pub(crate) fn read(field: &[u8], room: usize) -> Reading
-    ensures { λ r. ⌜ Tells r (now (field .entry)) room ⌝ }
+    ensures { λ r. ⌜ Says r (decodeAnswer (now (field .entry)) room) (payloadOf (now (field .entry))) ⌝ }
 {
     let n = field.len();
     if n == 1 {
@@ -41,7 +39,7 @@ pub(crate) fn read(field: &[u8], room: usize) -> Reading
     if room < size {
         return Reading::Refused(Refusal::RoomShort);
     }
-    let row = rows::row_of(size);
+    let row = table::row_of(size);
     let number = bytes::load(field);
     if number >> (9 * size + row.padding) != row.break_bit {
         return Reading::Refused(Refusal::BreakBit);
@@ -49,14 +47,14 @@ pub(crate) fn read(field: &[u8], room: usize) -> Reading
     body(number, size, row.padding)
 }
 
-// Reads the words and the padding of a field.
-fn body(number: u64, size: usize, padding: usize) -> Reading
-    requires { ⌜ (size < 8) × (padding ≤ 8) × (9 * size + padding < 64) ⌝ }
-    ensures { λ r. ⌜ r ≡ readBody (padded padding number) 0 0 (map symbolOf (packed 9 size (bits (9 * size + padding) number))) ⌝ }
+// Reads the words of a field, and then its `count` bits of padding.
+fn body(number: u64, size: usize, count: usize) -> Reading
+    requires { ⌜ (size < 8) × (count ≤ 8) × (9 * size + count < 64) ⌝ }
+    ensures { λ r. ⌜ Says r (wordsAnswer 0 (symbolsIn size count number) (paddingAnswer (padded count number) size)) (map byteOf (symbolsIn size count number)) ⌝ }
 {
     let list = reverse_list::list();
     let mut payload: u64 = 0;
-    let mut at = 9 * size + padding;
+    let mut at = 9 * size + count;
     let mut i = 0;
     while i < size {
         at -= 9;
@@ -73,7 +71,7 @@ fn body(number: u64, size: usize, padding: usize) -> Reading
         }
         i += 1;
     }
-    if lowest(number, padding) != padding::number_of(0, padding) {
+    if lowest(number, count) != padding::number_of(0, count) {
         return Reading::Refused(Refusal::Padding);
     }
     Reading::Payload(payload)

@@ -5,9 +5,9 @@ ghost use lib.ListN.{length};
 ghost use Rattle.bits.specs.Rows.{number};
 ghost use Rattle.words.specs.Lists.{wordList};
 ghost use Rattle.field.specs.Field.{wordBits, fieldBits};
-ghost use Rattle.field.specs.Rows.{rowOf};
+ghost use Rattle.field.specs.Table.{rowOf};
 use crate::padding;
-use crate::rows::Row;
+use crate::table::Row;
 use words::word_list;
 
 // The number of a payload's field, its row being given.

@@ -12,7 +12,7 @@ mod bytes;
 mod decoding;
 mod encoding;
 mod padding;
-pub mod rows;
+pub mod table;
 
 use decoding::Reading;
 use refusals::Answer;
@@ -27,7 +27,7 @@ pub fn encode(payload: &[u8], field: &mut [u8]) -> Answer
     if 7 < size {
         return Answer::Refused(Refusal::PayloadTooLong);
     }
-    let row = rows::row_of(size);
+    let row = table::row_of(size);
     if field.len() < row.bytes {
         return Answer::Refused(Refusal::RoomShort);
     }

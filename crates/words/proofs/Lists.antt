@@ -1,29 +1,19 @@
 -- What the two lists hold at each place. Assumes nothing.
---     numbers-at         a list made from the numbers 0, 1 and so on holds at k what is made from k
 --     word-list-at       at x stands the word of byte x
 --     reverse-list-at    at nine bits stands their place among the words
-use mathlib.Core.Path.{_≡_, refl, sym, ap, _∙_}
+use mathlib.Core.Path.{_≡_, refl, sym, _∙_}
 use mathlib.Core.Bool.{Bool, true, false, cond}
-use mathlib.Core.List.{map}
-use Prim.Native.Nat.{ℕ, zero, suc, _+_, _≤_, _<_}
-use native.Mathlib.Nat.{zero-add, not-suc-le-zero, le-of-suc-le-suc}
+use Prim.Native.Nat.{ℕ, _≤_, _<_}
 use native.Mathlib.Omega.{arith}
 use lib.Dec.{ltb}
 use lib.ListN.{getD}
 use borrow.Author.Tests.{ltb-true, ltb-false}
-use Rattle.words.specs.Words.{numbersFrom, words, wordOf}
+use Rattle.bits.proofs.Numbers.{numbers-at}
+use Rattle.words.specs.Words.{words, wordOf}
 use Rattle.words.specs.Symbols.{placeIn}
 use Rattle.words.specs.Lists.{wordList, reverseList, placeBy}
 use Rattle.words.proofs.Words.{words-258, words-below}
 use Rattle.words.proofs.Places.{place-none}
-
-from-at : {A : Type 0} (f : ℕ → A) (d : A) (a n k : ℕ) → k < n → getD (map f (numbersFrom a n)) k d ≡ f (a + k)
-from-at f d a zero k h = absurd (not-suc-le-zero h)
-from-at f d a (suc n) zero h = ap f (omega arith)
-from-at f d a (suc n) (suc k) h = from-at f d (suc a) n k (le-of-suc-le-suc h) ∙ ap f (omega arith)
-
-pub numbers-at : {A : Type 0} (f : ℕ → A) (d : A) (n k : ℕ) → k < n → getD (map f (numbersFrom 0 n)) k d ≡ f k
-numbers-at f d n k h = from-at f d 0 n k h ∙ ap f (zero-add k)
 
 pub word-list-at : (x : ℕ) → x < 256 → getD wordList x 0 ≡ wordOf x
 unfolding wordList

@@ -4,7 +4,8 @@ use mathlib.Core.Bool.{cond}
 use mathlib.Core.List.{List, map}
 use lib.Dec.{ltb}
 use lib.ListN.{getD}
-use Rattle.words.specs.Words.{numbersFrom, words, wordOf}
+use Rattle.bits.specs.Numbers.{numbersFrom}
+use Rattle.words.specs.Words.{words, wordOf}
 use Rattle.words.specs.Symbols.{placeIn}
 
 -- the word of each of the 256 bytes

@@ -1,8 +1,9 @@
 -- The words, by document 01's ordering rule. Assumes nothing.
-use Prim.Native.Nat.{ℕ, zero, suc, _+_}
+use Prim.Native.Nat.{ℕ, _+_}
 use mathlib.Core.Bool.{Bool, not, cond, _&&_}
 use mathlib.Core.List.{List, [], _∷_}
 use lib.ListN.{getD, take, drop}
+use Rattle.bits.specs.Numbers.{numbersFrom}
 use Rattle.bits.specs.Rows.{bits}
 use Rattle.bits.specs.Neighbours.{equalNeighbours}
 
@@ -10,11 +11,6 @@ use Rattle.bits.specs.Neighbours.{equalNeighbours}
 abbrev pub keepsRule : List ℕ → Bool
 keepsRule l =
     not (equalNeighbours 5 l) && not (equalNeighbours 3 (take 3 l)) && not (equalNeighbours 3 (drop 6 l))
-
--- the n numbers from a on
-abbrev pub numbersFrom : ℕ → ℕ → List ℕ
-numbersFrom a zero = []
-numbersFrom a (suc n) = a ∷ numbersFrom (suc a) n
 
 -- those numbers of a list whose nine bits are a word
 abbrev pub wordsAmong : List ℕ → List ℕ

@@ -4,11 +4,15 @@ use Prim.Native.Nat.{ℕ, _≤_}
 use native.Mathlib.Omega.{arith}
 use borrow.Author.Needs.{needs}
 use lib.ListN.{length}
+use Rattle.bits.specs.Rows.{number}
 use Rattle.refusals.specs.declared.Answer.the-variants.{Length}
 use Rattle.field.specs.Sizes.{fieldBytes}
-use Rattle.field.specs.declared.rows.Row.{Row}
+use Rattle.field.specs.Field.{fieldOf}
+use Rattle.field.specs.declared.table.Row.{Row}
 use Rattle.field.proofs.EncodeAnswers.{encode-long, encode-short, encode-accepts}
-use Rattle.field.proofs.FieldBits.{fieldBytes-few, field-stored}
+use Rattle.field.proofs.FieldBits.{field-length, field-below, bits-of-field}
+use Rattle.field.proofs.Sizes.{fieldBytes-few}
+use Rattle.field.proofs.Stored.{stored}
 use Rattle.field.proofs.encode.Statement.{statement}
 use Rattle.field.proofs.encode.Tie as tie
 
@@ -47,7 +51,10 @@ returns-3 c =
     let row = c .before .before .before .before .before .before .before in
     let payload = row .before .before .before .before .args .payload .now in (
       ap Length (bytes row) ∙ sym (encode-accepts payload _ (size row) (rw (bytes row) at (c .before .before .before .before .before .if2 .left))),
-      c .before .before .store .ensures ∙ field-stored payload _ _ _ (size row) (c .before .before .before .before .field-number .ensures) (bytes row),
+      c .before .before .store .ensures
+          ∙ stored (fieldOf payload) _ _ _ (field-below payload)
+          (c .before .before .before .before .field-number .ensures ∙ ap (number 0) (sym (bits-of-field payload (size row))))
+          (bytes row ∙ sym (field-length payload)),
     )
 
 pub encode-spec : {M : Type 1} → statement M

@@ -1,34 +1,39 @@
--- `field::decoding::body` meets its contract. The invariant: the words that are left, behind the bytes so far, lead where all of
--- them lead; and the bytes so far are i. Assumes nothing.
-use mathlib.Core.Path.{_≡_, _∙_}
-use mathlib.Core.Bool.{cond}
-use mathlib.Core.List.{_∷_, map}
+-- `field::decoding::body` meets its contract. The invariant: the words that are left lead to the answer that all of them lead to,
+-- and behind the bytes so far, which are i, they give the payload's number. Assumes nothing.
+use mathlib.Core.Path.{_≡_, refl, sym, ap, ap₂, _∙_}
+use mathlib.Core.Bool.{Bool}
+use mathlib.Core.List.{List, [], _∷_, map}
 use Prim.Native.Nat.{ℕ, _+_, _*_, _-_, _/_, _%_, _^_, _≤_, _<_}
 use native.Mathlib.Nat.{sub-zero, pow-le-pow-right}
 use native.Mathlib.Omega.{arith}
 use borrow.Author.Needs.{needs}
 use borrow.Author.Tests.{eq-eqb, ne-eqb}
 use lib.Dec.{lit<, eqb}
+use lib.ListN.{length, length-map}
 use lib.Pow.{pow-add}
-use Rattle.bits.specs.Rows.{bits}
-use Rattle.bits.specs.Packing.{packed}
-use Rattle.bits.proofs.Packing.{packed-next}
+use Rattle.bits.specs.Rows.{bits, number}
+use Rattle.bits.specs.Packing.{unpacked, packed}
+use Rattle.bits.proofs.Packing.{packed-length, packed-next, number-unpacked}
+use Rattle.refusals.specs.declared.Answer.the-variants.{Length}
 use Rattle.words.specs.Symbols.{symbolOf}
+use Rattle.words.specs.declared.Symbol.{Symbol}
 use Rattle.words.proofs.Lists.{reverse-list-at}
-use Rattle.field.specs.Reading.{padded, readBody}
-use Rattle.refusals.specs.declared.Refusal.the-variants.{Padding}
-use Rattle.field.specs.declared.decoding.Reading.the-variants.{Payload, Refused}
+use Rattle.field.specs.Decode.{byteOf, wordsAnswer, paddingAnswer}
+use Rattle.field.specs.Reading.{symbolsIn, padded}
 use Rattle.field.proofs.decoding.body.Statement.{statement}
 use Rattle.field.proofs.decoding.body.Tie as tie
 
+-- the symbols l, as words from i on behind the bytes of `payload`, lead where all of the field's do
+record Leads (field size count i payload : ℕ) (l : List Symbol) : Type 0 where
+  to-answer : wordsAnswer i l (paddingAnswer (padded count field) size) ≡ wordsAnswer 0 (symbolsIn size count field) (paddingAnswer (padded count field) size)
+  to-payload : number payload (unpacked 8 (map byteOf l)) ≡ number 0 (unpacked 8 (map byteOf (symbolsIn size count field)))
+
 abbrev Inv-loop : tie.InvT-loop
-Inv-loop number size padding list payload₀ at₀ i₀ payload at i =
-    (i ≤ size) × (at ≡ 9 * (size - i) + padding) × (payload < 256 ^ i)
-    × (readBody (padded padding number) i payload (map symbolOf (packed 9 (size - i) (bits at number)))
-    ≡ readBody (padded padding number) 0 0 (map symbolOf (packed 9 size (bits (9 * size + padding) number))))
+Inv-loop field size count list payload₀ at₀ i₀ payload at i =
+    (i ≤ size) × (at ≡ 9 * (size - i) + count) × (payload < 256 ^ i) × Leads field size count i payload (map symbolOf (packed 9 (size - i) (bits at field)))
 
 abbrev μ-loop : tie.MeasureT-loop
-μ-loop number size padding list payload₀ at₀ i₀ payload at i = size - i
+μ-loop field size count list payload₀ at₀ i₀ payload at i = size - i
 
 -- a number of i bytes leaves room for one more
 room : (i : ℕ) → i < 7 → 256 ^ i ≤ 256 ^ 6
@@ -41,35 +46,33 @@ unfolding symbolOf
 symbol c =
     c .symbol-in .ensures ∙ rw (c .before .before .before .before .before .list .ensures, reverse-list-at, c .before .nine-at .ensures)
 
--- the words that are left, the first of them as it was looked up, lead where all lead
-left : (c : tie.After-symbol-in Inv-loop μ-loop) →
-    let number = c .before .before .before .before .before .before .args .number in
-    let size = c .before .before .before .before .before .before .args .size in
-    let padding = c .before .before .before .before .before .before .args .padding in
-    let payload = c .before .before .before .before .loop .payload in
-    let at = c .before .before .before .before .loop .at in
-    let i = c .before .before .before .before .loop .i in
-    readBody (padded padding number) i payload (c .symbol-in .result ∷ map symbolOf (packed 9 (size - (i + 1)) (bits (at - 9) number)))
-    ≡ readBody (padded padding number) 0 0 (map symbolOf (packed 9 size (bits (9 * size + padding) number)))
-left c =
-    let number = c .before .before .before .before .before .before .args .number in
-    let size = c .before .before .before .before .before .before .args .size in
-    let at = c .before .before .before .before .loop .at in
-    let i = c .before .before .before .before .loop .i in
-    rw (symbol c) (rw (packed-next 9 size i at number (omega arith) (omega arith)) at (c .before .before .before .before .loop .inv .3))
+-- the words that are left, the first of them as y, which was looked up
+left : (c : tie.After-symbol-in Inv-loop μ-loop) (y : Symbol) → c .symbol-in .result ≡ y →
+    let start = c .before .before .before .before .before .before in
+    let turn = c .before .before .before .before .loop in
+    Leads (start .args .number) (start .args .size) (start .args .count) (turn .i) (turn .payload)
+    (y ∷ map symbolOf (packed 9 (start .args .size - (turn .i + 1)) (bits (turn .at - 9) (start .args .number))))
+left c y e =
+    let start = c .before .before .before .before .before .before in
+    let turn = c .before .before .before .before .loop in
+    let next = packed-next 9 (start .args .size) (turn .i) (turn .at) (start .args .number) (omega arith) (omega arith) in
+    rw (← (sym (symbol c) ∙ e)) (rw next at (turn .inv .3))
 
--- behind the last word, the padding's test decides
+-- none are left
 end : (c : tie.After-number-of Inv-loop μ-loop) →
     let start = c .before .before .before .before .before in
-    let number = start .args .number in
-    let size = start .args .size in
-    let padding = start .args .padding in
-    cond (eqb (c .before .lowest .result) (c .number-of .result)) (Payload (c .before .before .before .loop .payload)) (Refused Padding)
-    ≡ readBody (padded padding number) 0 0 (map symbolOf (packed 9 size (bits (9 * size + padding) number)))
+    let turn = c .before .before .before .loop in
+    Leads (start .args .number) (start .args .size) (start .args .count) (turn .i) (turn .payload) []
 unfolding packed
 end c =
     let none : c .before .before .before .before .before .args .size - c .before .before .before .loop .i ≡ 0 = omega arith in
-    rw (c .before .lowest .ensures, c .number-of .ensures) (rw none at (c .before .before .before .loop .inv .3))
+    rw none at (c .before .before .before .loop .inv .3)
+
+-- the padding's test, as the code makes it
+right : (c : tie.After-number-of Inv-loop μ-loop) →
+    let start = c .before .before .before .before .before in
+    eqb (c .before .lowest .result) (c .number-of .result) ≡ padded (start .args .count) (start .args .number)
+right c = ap₂ eqb (c .before .lowest .ensures) (c .number-of .ensures)
 
 list-requires : tie.Need-list-requires Inv-loop μ-loop
 list-requires c κs = search needs
@@ -81,7 +84,7 @@ add-at : tie.Need-add-at Inv-loop μ-loop
 add-at c = omega arith
 
 loop-holds : tie.Need-loop-holds Inv-loop μ-loop
-loop-holds c = (omega arith, omega arith, lit< tt, rw sub-zero)
+loop-holds c = (omega arith, omega arith, lit< tt, rw sub-zero (record { to-answer = refl; to-payload = refl }))
 
 sub-at : tie.Need-sub-at Inv-loop μ-loop
 sub-at c = omega arith
@@ -108,13 +111,13 @@ enum-told : tie.Need-enum-told Inv-loop μ-loop
 enum-told c = search needs
 
 returns : tie.Need-returns Inv-loop μ-loop
-returns c = rw (c .enum-told .given .1) at (left (c .before .before))
+returns c = sym (left (c .before .before) _ (c .enum-told .given .1) .to-answer)
 
 enum-told-2 : tie.Need-enum-told-2 Inv-loop μ-loop
 enum-told-2 c = search needs
 
 returns-2 : tie.Need-returns-2 Inv-loop μ-loop
-returns-2 c = rw (c .enum-told2 .given .1) at (left (c .before .before))
+returns-2 c = sym (left (c .before .before) _ (c .enum-told2 .given .1) .to-answer)
 
 add-i : tie.Need-add-i Inv-loop μ-loop
 add-i c = omega arith
@@ -124,7 +127,14 @@ loop-less c = omega arith
 
 loop-again : tie.Need-loop-again Inv-loop μ-loop
 loop-again c =
-    (omega arith, omega arith, omega (arith, pow-add 256 (c .before .before .before .before .before .before .before .loop .i) 1), rw (c .before .x .given .1) at (left (c .before .before .before)))
+    let turn = c .before .before .before .before .before .before .before .loop in
+    let before = left (c .before .before .before) _ (c .before .x .given .1) in
+    let byte : c .before .x .given .0 .0 < 256 = omega arith in (
+      omega arith,
+      omega arith,
+      omega (arith, pow-add 256 (turn .i) 1),
+      record { to-answer = before .to-answer; to-payload = sym (number-unpacked 8 (turn .payload) _ _ byte) ∙ before .to-payload },
+    )
 
 lowest-requires : tie.Need-lowest-requires Inv-loop μ-loop
 lowest-requires c κs = omega arith
@@ -133,10 +143,22 @@ number-of-requires : tie.Need-number-of-requires Inv-loop μ-loop
 number-of-requires c κs = (omega arith, omega arith)
 
 returns-3 : tie.Need-returns-3 Inv-loop μ-loop
-returns-3 c = rw (ne-eqb _ _ (c .if1 .taken)) at (end (c .before))
+returns-3 c =
+    sym (end (c .before) .to-answer)
+    ∙ ap (λ (t : Bool). paddingAnswer t (c .before .before .before .before .before .before .args .size)) (sym (right (c .before)) ∙ ne-eqb _ _ (c .if1 .taken))
 
 returns-4 : tie.Need-returns-4 Inv-loop μ-loop
-returns-4 c = rw (eq-eqb _ _ (c .if1 .left)) at (end (c .before))
+unfolding number unpacked
+returns-4 c =
+    let start = c .before .before .before .before .before .before in
+    let all = packed 9 (start .args .size) (bits (9 * start .args .size + start .args .count) (start .args .number)) in
+    let long : length (map byteOf (map symbolOf all)) ≡ start .args .size
+    = length-map (map symbolOf all) byteOf ∙ length-map all symbolOf ∙ packed-length 9 (start .args .size) _ in (
+      sym (end (c .before) .to-answer)
+          ∙ ap (λ (t : Bool). paddingAnswer t (start .args .size)) (sym (right (c .before)) ∙ eq-eqb _ _ (c .if1 .left))
+          ∙ ap Length (sym long),
+      end (c .before) .to-payload,
+    )
 
 pub body-spec : {M : Type 1} → statement M
 body-spec =

@@ -6,11 +6,12 @@ use lib.ListN.{length}
 use borrow.Author.Needs.{needs}
 use Rattle.bits.specs.Rows.{number}
 use Rattle.field.specs.Sizes.{fieldBytes, breakBit, paddingBits}
-use Rattle.field.specs.Decode.{sizeOf}
-use Rattle.field.specs.declared.rows.Row.{Row}
-use Rattle.field.proofs.FieldBits.{paddingBits-few, body-few}
-use Rattle.field.proofs.FieldParts.{MayBe, field-bytes-back, bodyBits, fieldNumber}
-use Rattle.field.proofs.ReadingField.{decode-one, decode-long, decode-short, decode-broken, body-tells}
+use Rattle.field.specs.Parts.{sizeOf}
+use Rattle.field.specs.Decode.{payloadOf}
+use Rattle.field.specs.declared.table.Row.{Row}
+use Rattle.field.proofs.Sizes.{fieldBytes-back, paddingBits-few, body-few}
+use Rattle.field.proofs.FieldParts.{LengthAllowed, loaded, bodyBits, words-part, break-right, break-wrong, padding-test}
+use Rattle.field.proofs.DecodeAnswers.{Begun, decode-one, decode-long, decode-short, decode-broken, decode-body}
 use Rattle.field.proofs.decoding.read.Statement.{statement}
 use Rattle.field.proofs.decoding.read.Tie as tie
 
@@ -24,11 +25,11 @@ size-of-requires : tie.Need-size-of-requires
 size-of-requires c κs = search needs
 
 -- what is known of the field's length and its payload's
-may : (c : tie.After-size-of) → MayBe (c .before .before .before .before .args .field .now)
-may c = record { not-one = c .before .before .if1 .left; at-most = omega arith }
+allowed : (c : tie.After-size-of) → LengthAllowed (c .before .before .before .before .args .field .now)
+allowed c = record { not-one = c .before .before .if1 .left; at-most = omega arith }
 
 returns-3 : tie.Need-returns-3
-returns-3 c = decode-short _ _ (may (c .before)) (rw (c .before .size-of .ensures) at (c .if3 .taken))
+returns-3 c = decode-short _ _ (allowed (c .before)) (rw (c .before .size-of .ensures) at (c .if3 .taken))
 
 row-of-requires : tie.Need-row-of-requires
 row-of-requires c κs = search needs
@@ -37,7 +38,7 @@ row-of-requires c κs = search needs
 bit : (c : tie.After-row-of) → c .row-of .result .«break_bit» ≡ number 0 (breakBit (length (c .before .before .before .before .before .before .args .field .now)))
 bit c =
     ap (λ (r : Row). r .«break_bit») (c .row-of .ensures)
-    ∙ ap (λ (n : ℕ). number 0 (breakBit n)) (ap fieldBytes (c .before .before .size-of .ensures) ∙ field-bytes-back _ (may (c .before .before) .not-one))
+    ∙ ap (λ (n : ℕ). number 0 (breakBit n)) (ap fieldBytes (c .before .before .size-of .ensures) ∙ fieldBytes-back _ (allowed (c .before .before) .not-one))
 
 pad : (c : tie.After-row-of) → c .row-of .result .padding ≡ paddingBits (sizeOf (c .before .before .before .before .before .before .args .field .now))
 pad c = ap (λ (r : Row). r .padding) (c .row-of .ensures) ∙ ap paddingBits (c .before .before .size-of .ensures)
@@ -57,7 +58,7 @@ pad-few c = subst (λ (n : ℕ). n ≤ 8) (sym (pad c)) (paddingBits-few (sizeOf
 -- the number of the field, without its words and its padding
 high : (c : tie.After-load) →
     c .load .result / 2 ^ (9 * c .before .before .before .size-of .result + c .before .row-of .result .padding)
-    ≡ fieldNumber (c .before .before .before .before .before .before .before .args .field .now) / 2 ^ bodyBits (c .before .before .before .before .before .before .before .args .field .now)
+    ≡ loaded (c .before .before .before .before .before .before .before .args .field .now) / 2 ^ bodyBits (c .before .before .before .before .before .before .before .args .field .now)
 high c = ap₂ (λ (n k : ℕ). n / 2 ^ k) (c .load .ensures) (body-bits (c .before))
 
 load-requires : tie.Need-load-requires
@@ -75,7 +76,8 @@ shr-if4 c = body-below (c .before .before)
 returns-4 : tie.Need-returns-4
 returns-4 c =
     let row = c .before .before .before .before in
-    decode-broken _ _ _ _ (may (row .before .before)) (omega arith) (high (c .before .before .before)) (bit row) (c .if4 .taken)
+    let may = allowed (row .before .before) in
+    decode-broken _ _ may (omega arith) (break-wrong _ _ _ may (high (c .before .before .before)) (bit row) (c .if4 .taken))
 
 body-requires : tie.Need-body-requires
 body-requires c κs =
@@ -83,11 +85,16 @@ body-requires c κs =
     (search needs, pad-few row, body-below row)
 
 returns-5 : tie.Need-returns-5
+unfolding payloadOf
 returns-5 c =
     let load = c .before .before .before .before in
     let row = load .before in
-    rw (c .body .ensures, load .load .ensures, pad row, row .before .before .size-of .ensures)
-    (body-tells _ _ _ _ (may (row .before .before)) (omega arith) (high load) (bit row) (c .before .if4 .left))
+    let start = row .before .before .before .before .before .before in
+    let may = allowed (row .before .before) in
+    let begun : Begun (start .args .field .now) (start .args .room)
+    = record { allowed = may; fits = omega arith; break-is = break-right _ _ _ may (high load) (bit row) (c .before .if4 .left) } in
+    rw (decode-body _ _ begun, padding-test _ may, words-part _ may)
+    (rw (load .load .ensures, pad row, row .before .before .size-of .ensures) at (c .body .ensures))
 
 pub read-spec : {M : Type 1} → statement M
 read-spec =

@@ -8,8 +8,9 @@ use lib.ListN.{length}
 use Rattle.bits.specs.Rows.{number}
 use Rattle.field.specs.Sizes.{fieldBytes, breakBit, paddingBits}
 use Rattle.field.specs.Field.{fieldBits}
-use Rattle.field.specs.declared.rows.Row.{Row}
-use Rattle.field.proofs.FieldBits.{break-number-below, paddingBits-few, field-number, field-number-below}
+use Rattle.field.specs.declared.table.Row.{Row}
+use Rattle.field.proofs.Sizes.{paddingBits-few, break-number-below}
+use Rattle.field.proofs.FieldBits.{field-number, field-number-below}
 use Rattle.field.proofs.encoding.field_number.Statement.{statement}
 use Rattle.field.proofs.encoding.field_number.Tie as tie
 

@@ -1,12 +1,12 @@
 -- The table of eight rows by payload size. Assumes nothing.
 use Prim.Native.Nat.{ℕ}
 use mathlib.Core.List.{List, map}
+use Rattle.bits.specs.Numbers.{numbersFrom}
 use Rattle.bits.specs.Rows.{number}
-use Rattle.words.specs.Words.{numbersFrom}
 use Rattle.field.specs.Sizes.{fieldBytes, breakBit, paddingBits}
-use Rattle.field.specs.declared.rows.Row.{Row}
+use Rattle.field.specs.declared.table.Row.{Row}
 
--- what the size of a payload decides of its field; a break bit that is not there is a 0
+-- the row of a size; a break bit that is not there is a 0
 abbrev pub rowOf : ℕ → Row
 rowOf size =
     record {
@@ -15,5 +15,6 @@ rowOf size =
       padding = paddingBits size;
     }
 
+-- the rows of the sizes 0 to 7
 unfoldable pub rows : List Row
 rows = map rowOf (numbersFrom 0 8)

@@ -1,9 +1,9 @@
 // Document 01's table: what the size of a payload decides of its field.
 ghost use mathlib.Core.Path.{_≡_};
 ghost use Prim.Native.Nat.{_<_};
-ghost use Rattle.field.specs.Rows.{rowOf, rows};
+ghost use Rattle.field.specs.Table.{rowOf, rows};
 
-// The field's bytes, which are the DLC; its break bit, 0 in the empty field, which has none; its bits of padding.
+// How many bytes the field has, which is the DLC; its break bit, 0 in the empty field, which has none; how many bits of padding.
 pub struct Row {
     pub bytes: usize,
     pub break_bit: u64,
@@ -54,7 +54,7 @@ const ROWS: [Row; 8] = [
 ];
 
 // The rows of the sizes 0 to 7.
-pub fn table() -> [Row; 8]
+pub fn rows() -> [Row; 8]
     ensures { λ r. ⌜ r ≡ rows ⌝ }
 {
     ROWS
@@ -65,6 +65,6 @@ pub(crate) fn row_of(size: usize) -> Row
     requires { ⌜ size < 8 ⌝ }
     ensures { λ r. ⌜ r ≡ rowOf size ⌝ }
 {
-    let rows = table();
+    let rows = rows();
     rows[size]
 }

@@ -1,0 +1,108 @@
+-- The answers of decoding, one law for each. Assumes nothing.
+--     decode-one, decode-long    3, a field of 1 byte or of more than 8
+--     decode-short      2, room short
+--     decode-broken     4, another bit in the break bit's place
+--     decode-escape     5, an escape behind bytes; the place is how many they are
+--     decode-no-word    6, the same of nine bits that are no word
+--     decode-padding    7, bytes, but behind them another padding
+--     decode-accepts    the payload's length, where all is right
+use mathlib.Core.Path.{_≡_, refl, sym, ap, _∙_, subst}
+use mathlib.Core.Bool.{Bool, true, false}
+use mathlib.Core.List.{List, [], _∷_, _++_, map, append-nil}
+use Prim.Native.Nat.{ℕ, _+_, _≤_, _<_}
+use native.Mathlib.Nat.{add-zero, zero-add}
+use native.Mathlib.Omega.{arith}
+use lib.Dec.{T}
+use lib.ListN.{length}
+use borrow.Author.Tests.{eq-eqb, ne-eqb, lt-ltb, le-ltb}
+use Rattle.bits.specs.Same.{same}
+use Rattle.bits.proofs.Same.{same-eq, eq-same}
+use Rattle.refusals.specs.declared.Answer.{Answer}
+use Rattle.refusals.specs.declared.Answer.the-variants.{Length, Refused}
+use Rattle.refusals.specs.declared.Refusal.the-variants as refusal
+use Rattle.words.specs.declared.Symbol.{Symbol}
+use Rattle.words.specs.declared.Symbol.the-variants.{Byte, Escape, Nothing}
+use Rattle.field.specs.Sizes.{breakBit, paddingBits}
+use Rattle.field.specs.Padding.{padding}
+use Rattle.field.specs.Parts.{sizeOf, breakPart, paddingPart, symbolsOf}
+use Rattle.field.specs.Decode.{wordsAnswer, paddingAnswer, decodeAnswer}
+use Rattle.field.proofs.FieldParts.{LengthAllowed}
+
+pub decode-one : (field : List ℕ) (room : ℕ) → length field ≡ 1 → decodeAnswer field room ≡ Refused (refusal.FieldLength 0)
+unfolding decodeAnswer
+decode-one field room h = simp (eq-eqb _ _ h)
+
+pub decode-long : (field : List ℕ) (room : ℕ) → (length field ≡ 1 → ⊥) → 8 < length field → decodeAnswer field room ≡ Refused (refusal.FieldLength 0)
+unfolding decodeAnswer
+decode-long field room h g = simp (ne-eqb _ _ h, lt-ltb _ _ g)
+
+pub decode-short : (field : List ℕ) (room : ℕ) → LengthAllowed field → room < sizeOf field → decodeAnswer field room ≡ Refused refusal.RoomShort
+unfolding decodeAnswer
+decode-short field room allowed h = simp (ne-eqb _ _ (allowed .not-one), le-ltb _ _ (allowed .at-most), lt-ltb _ _ h)
+
+differ : (l m : List ℕ) → (l ≡ m → ⊥) → same l m ≡ false
+differ l m ne = go (same l m) refl
+  where
+    go : (t : Bool) → same l m ≡ t → t ≡ false
+    go true e = absurd (ne (same-eq l m (subst T (sym e) tt)))
+    go false e = refl
+
+pub decode-broken : (field : List ℕ) (room : ℕ) → LengthAllowed field → sizeOf field ≤ room → (breakPart field ≡ breakBit (length field) → ⊥)
+    → decodeAnswer field room ≡ Refused refusal.BreakBit
+unfolding decodeAnswer
+decode-broken field room allowed h ne =
+    simp (ne-eqb _ _ (allowed .not-one), le-ltb _ _ (allowed .at-most), le-ltb _ _ h, differ _ _ ne)
+
+-- what stands behind the right break bit
+pub record Begun (field : List ℕ) (room : ℕ) : Type 0 where
+  pub allowed : LengthAllowed field
+  pub fits : sizeOf field ≤ room
+  pub break-is : breakPart field ≡ breakBit (length field)
+
+pub decode-body : (field : List ℕ) (room : ℕ) → Begun field room
+    → decodeAnswer field room
+    ≡ wordsAnswer 0 (symbolsOf field) (paddingAnswer (same (paddingPart field) (padding 0 (paddingBits (sizeOf field)))) (sizeOf field))
+unfolding decodeAnswer
+decode-body field room begun =
+    simp (ne-eqb _ _ (begun .allowed .not-one), le-ltb _ _ (begun .allowed .at-most), le-ltb _ _ (begun .fits))
+    (rw (begun .break-is, eq-same (breakBit (length field))))
+
+-- bytes are passed over, and counted
+passed : (word : ℕ) (bytes : List ℕ) (l : List Symbol) (next : Answer) → wordsAnswer word (map Byte bytes ++ l) next ≡ wordsAnswer (word + length bytes) l next
+passed word [] l next = ap (λ (n : ℕ). wordsAnswer n l next) (sym (add-zero word))
+passed word (x ∷ bytes) l next =
+    let more : word + 1 + length bytes ≡ word + length (x ∷ bytes) = omega arith in
+    passed (word + 1) bytes l next ∙ ap (λ (n : ℕ). wordsAnswer n l next) more
+
+stops : (field bytes : List ℕ) (rest : List Symbol) (room : ℕ) → Begun field room → symbolsOf field ≡ map Byte bytes ++ rest
+    → decodeAnswer field room
+    ≡ wordsAnswer (length bytes) rest (paddingAnswer (same (paddingPart field) (padding 0 (paddingBits (sizeOf field)))) (sizeOf field))
+stops field bytes rest room begun e =
+    let next = paddingAnswer (same (paddingPart field) (padding 0 (paddingBits (sizeOf field)))) (sizeOf field) in
+    decode-body field room begun
+    ∙ ap (λ (l : List Symbol). wordsAnswer 0 l next) e
+    ∙ passed 0 bytes rest next
+    ∙ ap (λ (n : ℕ). wordsAnswer n rest next) (zero-add (length bytes))
+
+pub decode-escape : (field bytes : List ℕ) (rest : List Symbol) (room : ℕ) → Begun field room → symbolsOf field ≡ map Byte bytes ++ (Escape ∷ rest)
+    → decodeAnswer field room ≡ Refused (refusal.Escape (length bytes))
+decode-escape field bytes rest room begun e = stops field bytes (Escape ∷ rest) room begun e
+
+pub decode-no-word : (field bytes : List ℕ) (rest : List Symbol) (room : ℕ) → Begun field room → symbolsOf field ≡ map Byte bytes ++ (Nothing ∷ rest)
+    → decodeAnswer field room ≡ Refused (refusal.NoWord (length bytes))
+decode-no-word field bytes rest room begun e = stops field bytes (Nothing ∷ rest) room begun e
+
+pub decode-padding : (field bytes : List ℕ) (room : ℕ) → Begun field room → symbolsOf field ≡ map Byte bytes
+    → (paddingPart field ≡ padding 0 (paddingBits (sizeOf field)) → ⊥)
+    → decodeAnswer field room ≡ Refused refusal.Padding
+decode-padding field bytes room begun e ne =
+    stops field bytes [] room begun (e ∙ sym (append-nil (map Byte bytes)))
+    ∙ ap (λ (t : Bool). paddingAnswer t (sizeOf field)) (differ _ _ ne)
+
+pub decode-accepts : (field bytes : List ℕ) (room : ℕ) → Begun field room → symbolsOf field ≡ map Byte bytes
+    → paddingPart field ≡ padding 0 (paddingBits (sizeOf field))
+    → decodeAnswer field room ≡ Length (sizeOf field)
+decode-accepts field bytes room begun e p =
+    let right = padding 0 (paddingBits (sizeOf field)) in
+    stops field bytes [] room begun (e ∙ sym (append-nil (map Byte bytes)))
+    ∙ ap (λ (t : Bool). paddingAnswer t (sizeOf field)) (ap (λ (l : List ℕ). same l right) p ∙ eq-same right)
