@@ -19,7 +19,7 @@ returns : tie.Need-returns
 returns c = decode-one _ _ (c .if1 .taken)
 
 returns-2 : tie.Need-returns-2
-returns-2 c = decode-long _ _ (c .before .if1 .left) (c .if2 .taken)
+returns-2 c = decode-long (c .before .before .before .args .field .now) _ (c .before .if1 .left) (omega arith)
 
 size-of-requires : tie.Need-size-of-requires
 size-of-requires c κs = search needs
