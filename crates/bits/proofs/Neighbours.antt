@@ -36,13 +36,16 @@ begins-self n b l = rw (eq-eqb b b refl)
 -- b goes on with the run, or starts another, and there are not yet five
 next-five : (r : Run) (b : ℕ) (l : List ℕ) → r .count ≤ 4 → five (record { bit = b; count = counted r b }) l ≡ five r (b ∷ l)
 unfolding five equalNeighbours
-next-five r b l h = go (eqb b (r .bit)) refl ∙ ap (λ (t : Bool). begins (5 - r .count) (r .bit) (b ∷ l) || (t || equalNeighbours 5 l)) (sym (begins-self 4 b l))
+next-five r b l h =
+    go (eqb b (r .bit)) refl
+    ∙ ap (λ (t : Bool). begins (5 - r .count) (r .bit) (b ∷ l) || (t || equalNeighbours 5 l)) (sym (begins-self 4 b l))
   where
     some : 5 - r .count ≡ suc (4 - r .count)
     some = omega arith
 
     go : (t : Bool) → eqb b (r .bit) ≡ t
-        → (begins (5 - cond t (r .count + 1) 1) b l || equalNeighbours 5 l) ≡ (begins (5 - r .count) (r .bit) (b ∷ l) || (begins 4 b l || equalNeighbours 5 l))
+        → (begins (5 - cond t (r .count + 1) 1) b l || equalNeighbours 5 l)
+        ≡ (begins (5 - r .count) (r .bit) (b ∷ l) || (begins 4 b l || equalNeighbours 5 l))
     go true e =
         let next : 5 - (r .count + 1) ≡ 4 - r .count = omega arith in
         let same : r .bit ≡ b = sym (eqb-true b (r .bit) e) in
@@ -89,7 +92,8 @@ unfolding five equalNeighbours
 nothing-five [] = refl
 nothing-five (b ∷ l) = go (eqb b 0) refl
   where
-    go : (t : Bool) → eqb b 0 ≡ t → ((t && begins 4 0 l) || ((eqb b b && begins 4 b l) || equalNeighbours 5 l)) ≡ ((eqb b b && begins 4 b l) || equalNeighbours 5 l)
+    go : (t : Bool) → eqb b 0 ≡ t
+        → ((t && begins 4 0 l) || ((eqb b b && begins 4 b l) || equalNeighbours 5 l)) ≡ ((eqb b b && begins 4 b l) || equalNeighbours 5 l)
     go true e = rw (eqb-true b 0 e) (begins-fewer 4 4 0 l (equalNeighbours 5 l) (omega arith))
     go false e = refl
 

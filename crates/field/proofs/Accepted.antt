@@ -27,7 +27,8 @@ pub record Accepted (field : List ℕ) (room n : ℕ) : Type 0 where
   pub words-are : symbolsOf field ≡ map Byte (payloadOf field)
   pub padding-is : paddingPart field ≡ padding 0 (paddingBits (sizeOf field))
 
-words-all : (word : ℕ) (l : List Symbol) (next : Answer) (n : ℕ) → wordsAnswer word l next ≡ Length n → (next ≡ Length n) × (l ≡ map Byte (map byteOf l))
+words-all : (word : ℕ) (l : List Symbol) (next : Answer) (n : ℕ) → wordsAnswer word l next ≡ Length n
+    → (next ≡ Length n) × (l ≡ map Byte (map byteOf l))
 words-all word [] next n e = (e, refl)
 words-all word (Byte x ∷ l) next n e =
     let rest = words-all (word + 1) l next n e in
@@ -43,7 +44,8 @@ accepted field room n e =
     (same (paddingPart field) (padding 0 (paddingBits (sizeOf field)))) refl
     e
   where
-    go : (one : Bool) → eqb (length field) 1 ≡ one → (long : Bool) → ltb 8 (length field) ≡ long → (short : Bool) → ltb room (sizeOf field) ≡ short
+    go : (one : Bool) → eqb (length field) 1 ≡ one → (long : Bool) → ltb 8 (length field) ≡ long
+        → (short : Bool) → ltb room (sizeOf field) ≡ short
         → (break : Bool) → same (breakPart field) (breakBit (length field)) ≡ break
         → (padded : Bool) → same (paddingPart field) (padding 0 (paddingBits (sizeOf field))) ≡ padded
         → cond (one || long) (Refused (refusal.FieldLength 0))

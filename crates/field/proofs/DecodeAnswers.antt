@@ -32,11 +32,13 @@ pub decode-one : (field : List ℕ) (room : ℕ) → length field ≡ 1 → deco
 unfolding decodeAnswer
 decode-one field room h = simp (eq-eqb _ _ h)
 
-pub decode-long : (field : List ℕ) (room : ℕ) → (length field ≡ 1 → ⊥) → 8 < length field → decodeAnswer field room ≡ Refused (refusal.FieldLength 0)
+pub decode-long : (field : List ℕ) (room : ℕ) → (length field ≡ 1 → ⊥) → 8 < length field
+    → decodeAnswer field room ≡ Refused (refusal.FieldLength 0)
 unfolding decodeAnswer
 decode-long field room h g = simp (ne-eqb _ _ h, lt-ltb _ _ g)
 
-pub decode-short : (field : List ℕ) (room : ℕ) → LengthAllowed field → room < sizeOf field → decodeAnswer field room ≡ Refused refusal.RoomShort
+pub decode-short : (field : List ℕ) (room : ℕ) → LengthAllowed field → room < sizeOf field
+    → decodeAnswer field room ≡ Refused refusal.RoomShort
 unfolding decodeAnswer
 decode-short field room allowed h = simp (ne-eqb _ _ (allowed .not-one), le-ltb _ _ (allowed .at-most), lt-ltb _ _ h)
 
@@ -47,8 +49,8 @@ differ l m ne = go (same l m) refl
     go true e = absurd (ne (same-eq l m (subst T (sym e) tt)))
     go false e = refl
 
-pub decode-broken : (field : List ℕ) (room : ℕ) → LengthAllowed field → sizeOf field ≤ room → (breakPart field ≡ breakBit (length field) → ⊥)
-    → decodeAnswer field room ≡ Refused refusal.BreakBit
+pub decode-broken : (field : List ℕ) (room : ℕ) → LengthAllowed field → sizeOf field ≤ room
+    → (breakPart field ≡ breakBit (length field) → ⊥) → decodeAnswer field room ≡ Refused refusal.BreakBit
 unfolding decodeAnswer
 decode-broken field room allowed h ne =
     simp (ne-eqb _ _ (allowed .not-one), le-ltb _ _ (allowed .at-most), le-ltb _ _ h, differ _ _ ne)
@@ -68,7 +70,8 @@ decode-body field room begun =
     (rw (begun .break-is, eq-same (breakBit (length field))))
 
 -- bytes are passed over, and counted
-passed : (word : ℕ) (bytes : List ℕ) (l : List Symbol) (next : Answer) → wordsAnswer word (map Byte bytes ++ l) next ≡ wordsAnswer (word + length bytes) l next
+passed : (word : ℕ) (bytes : List ℕ) (l : List Symbol) (next : Answer)
+    → wordsAnswer word (map Byte bytes ++ l) next ≡ wordsAnswer (word + length bytes) l next
 passed word [] l next = ap (λ (n : ℕ). wordsAnswer n l next) (sym (add-zero word))
 passed word (x ∷ bytes) l next =
     let more : word + 1 + length bytes ≡ word + length (x ∷ bytes) = omega arith in
@@ -84,12 +87,12 @@ stops field bytes rest room begun e =
     ∙ passed 0 bytes rest next
     ∙ ap (λ (n : ℕ). wordsAnswer n rest next) (zero-add (length bytes))
 
-pub decode-escape : (field bytes : List ℕ) (rest : List Symbol) (room : ℕ) → Begun field room → symbolsOf field ≡ map Byte bytes ++ (Escape ∷ rest)
-    → decodeAnswer field room ≡ Refused (refusal.Escape (length bytes))
+pub decode-escape : (field bytes : List ℕ) (rest : List Symbol) (room : ℕ) → Begun field room
+    → symbolsOf field ≡ map Byte bytes ++ (Escape ∷ rest) → decodeAnswer field room ≡ Refused (refusal.Escape (length bytes))
 decode-escape field bytes rest room begun e = stops field bytes (Escape ∷ rest) room begun e
 
-pub decode-no-word : (field bytes : List ℕ) (rest : List Symbol) (room : ℕ) → Begun field room → symbolsOf field ≡ map Byte bytes ++ (Nothing ∷ rest)
-    → decodeAnswer field room ≡ Refused (refusal.NoWord (length bytes))
+pub decode-no-word : (field bytes : List ℕ) (rest : List Symbol) (room : ℕ) → Begun field room
+    → symbolsOf field ≡ map Byte bytes ++ (Nothing ∷ rest) → decodeAnswer field room ≡ Refused (refusal.NoWord (length bytes))
 decode-no-word field bytes rest room begun e = stops field bytes (Nothing ∷ rest) room begun e
 
 pub decode-padding : (field bytes : List ℕ) (room : ℕ) → Begun field room → symbolsOf field ≡ map Byte bytes

@@ -83,15 +83,17 @@ break-number field allowed =
     ∙ number-bits 0 start (loaded field / 2 ^ bodyBits field)
     ∙ rw (zero-mul, zero-add) (shr-mod start (bodyBits field) few)
 
-pub break-right : (field : List ℕ) (high bit : ℕ) → LengthAllowed field → high ≡ loaded field / 2 ^ bodyBits field → bit ≡ number 0 (breakBit (length field))
-    → high ≡ bit → breakPart field ≡ breakBit (length field)
+pub break-right : (field : List ℕ) (high bit : ℕ) → LengthAllowed field
+    → high ≡ loaded field / 2 ^ bodyBits field → bit ≡ number 0 (breakBit (length field)) → high ≡ bit → breakPart field ≡ breakBit (length field)
 break-right field high bit allowed eh eb e =
-    let long = ap length (break-part field allowed) ∙ bits-length (wordsStart field) (loaded field / 2 ^ bodyBits field) in
-    let below : Below 2 (breakPart field) = rw (break-part field allowed) (bits-below (wordsStart field) (loaded field / 2 ^ bodyBits field)) in
-    number-only (breakPart field) (breakBit (length field)) below (breakBit-below (length field)) long (break-number field allowed ∙ sym eh ∙ e ∙ eb)
+    let found = loaded field / 2 ^ bodyBits field in
+    let long = ap length (break-part field allowed) ∙ bits-length (wordsStart field) found in
+    let below : Below 2 (breakPart field) = rw (break-part field allowed) (bits-below (wordsStart field) found) in
+    number-only (breakPart field) (breakBit (length field)) below (breakBit-below (length field)) long
+    (break-number field allowed ∙ sym eh ∙ e ∙ eb)
 
-pub break-wrong : (field : List ℕ) (high bit : ℕ) → LengthAllowed field → high ≡ loaded field / 2 ^ bodyBits field → bit ≡ number 0 (breakBit (length field))
-    → (high ≡ bit → ⊥) → breakPart field ≡ breakBit (length field) → ⊥
+pub break-wrong : (field : List ℕ) (high bit : ℕ) → LengthAllowed field
+    → high ≡ loaded field / 2 ^ bodyBits field → bit ≡ number 0 (breakBit (length field)) → (high ≡ bit → ⊥) → breakPart field ≡ breakBit (length field) → ⊥
 break-wrong field high bit allowed eh eb ne e = ne (eh ∙ sym (break-number field allowed) ∙ ap (number 0) e ∙ sym eb)
 
 -- ---- the padding

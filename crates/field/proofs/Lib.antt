@@ -5,6 +5,7 @@ pub mod Stored
 pub mod FieldParts
 pub mod EncodeAnswers
 pub mod DecodeAnswers
+pub mod BodyRead
 pub mod Places
 pub mod Accepted
 pub mod RoundTrip

@@ -24,7 +24,8 @@ unfolding fieldBits
 break-in-place [] h = absurd (not-suc-le-zero h)
 break-in-place (x ∷ payload) h = omega arith
 
-pub word-in-place : (payload : List ℕ) (i : ℕ) → i < length payload → take 9 (drop (1 + 9 * i) (fieldBits payload)) ≡ bits 9 (wordOf (getD payload i 0))
+pub word-in-place : (payload : List ℕ) (i : ℕ) → i < length payload
+    → take 9 (drop (1 + 9 * i) (fieldBits payload)) ≡ bits 9 (wordOf (getD payload i 0))
 unfolding fieldBits
 word-in-place [] i h = absurd (not-suc-le-zero h)
 word-in-place (x ∷ payload) i h =

@@ -59,8 +59,9 @@ row payload h =
 behind : (payload : List ℕ) → length payload ≤ 7
     → drop (wordsStart (fieldOf payload)) (unpacked 8 (fieldOf payload)) ≡ wordBits payload ++ padding 0 (paddingBits (length payload))
 behind payload h =
-    ap (drop (wordsStart (fieldOf payload))) (row payload h)
-    ∙ drop-at (breakBit (length (fieldOf payload))) (wordBits payload ++ padding 0 (paddingBits (length payload))) (wordsStart (fieldOf payload)) refl
+    let start = wordsStart (fieldOf payload) in
+    let rest = wordBits payload ++ padding 0 (paddingBits (length payload)) in
+    ap (drop start) (row payload h) ∙ drop-at (breakBit (length (fieldOf payload))) rest start refl
 
 break-of-field : (payload : List ℕ) → length payload ≤ 7 → breakPart (fieldOf payload) ≡ breakBit (length (fieldOf payload))
 unfolding breakPart
@@ -73,7 +74,8 @@ words-of-field payload b h =
     ap₂ (packed 9) (field-size payload ∙ sym (length-map payload wordOf)) (behind payload h)
     ∙ packed-unpacked 9 (map wordOf payload) (padding 0 (paddingBits (length payload))) (words-of-bytes-below payload b)
 
-padding-of-field : (payload : List ℕ) → length payload ≤ 7 → paddingPart (fieldOf payload) ≡ padding 0 (paddingBits (sizeOf (fieldOf payload)))
+padding-of-field : (payload : List ℕ) → length payload ≤ 7
+    → paddingPart (fieldOf payload) ≡ padding 0 (paddingBits (sizeOf (fieldOf payload)))
 unfolding paddingPart
 padding-of-field payload h =
     let words = 9 * sizeOf (fieldOf payload) in
@@ -155,7 +157,7 @@ field-of-payload field room n b e =
 pub one-payload : (p q : List ℕ) → Below 256 p → Below 256 q → length p ≤ 7 → length q ≤ 7 → fieldOf p ≡ fieldOf q → p ≡ q
 one-payload p q b c h g e = sym (payload-of-field p b h) ∙ ap payloadOf e ∙ payload-of-field q c g
 
-pub one-field : (f g : List ℕ) (room room' n n' : ℕ) → Below 256 f → Below 256 g → decodeAnswer f room ≡ Length n → decodeAnswer g room' ≡ Length n'
-    → payloadOf f ≡ payloadOf g → f ≡ g
+pub one-field : (f g : List ℕ) (room room' n n' : ℕ) → Below 256 f → Below 256 g
+    → decodeAnswer f room ≡ Length n → decodeAnswer g room' ≡ Length n' → payloadOf f ≡ payloadOf g → f ≡ g
 one-field f g room room' n n' b c e e' same =
     sym (field-of-payload f room n b e .0) ∙ ap fieldOf same ∙ field-of-payload g room' n' c e' .0

@@ -12,6 +12,7 @@ use Rattle.refusals.specs.declared.Answer.the-variants as answer
 use Rattle.words.specs.Symbols.{symbolOf}
 use Rattle.words.specs.declared.Symbol.{Symbol}
 use Rattle.field.specs.Padding.{padding}
+use Rattle.field.specs.Decode.{byteOf, wordsAnswer, paddingAnswer}
 use Rattle.field.specs.declared.decoding.Reading.{Reading}
 use Rattle.field.specs.declared.decoding.Reading.the-variants.{Payload, Refused}
 
@@ -22,6 +23,13 @@ symbolsIn size count field = map symbolOf (packed 9 size (bits (9 * size + count
 -- the lowest `count` bits of a field's number are its padding
 abbrev pub padded : ℕ → ℕ → Bool
 padded count field = eqb (field % 2 ^ count) (number 0 (padding 0 count))
+
+-- the answer to a field whose break bit is right, from its number, and the bytes that its words carry
+abbrev pub bodyAnswer : ℕ → ℕ → ℕ → Answer
+bodyAnswer size count field = wordsAnswer 0 (symbolsIn size count field) (paddingAnswer (padded count field) size)
+
+abbrev pub bodyBytes : ℕ → ℕ → ℕ → List ℕ
+bodyBytes size count field = map byteOf (symbolsIn size count field)
 
 -- the answer is the refusal; or it is the payload's length, and the number that of its bytes
 abbrev pub Says : Reading → Answer → List ℕ → Type 0

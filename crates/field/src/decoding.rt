@@ -1,9 +1,8 @@
 // Reading a field: whether it is accepted, and its payload as one number. Nothing is written.
 ghost use mathlib.Core.Path.{_≡_};
-ghost use mathlib.Core.List.{map};
 ghost use Prim.Native.Nat.{_+_, _-_, _*_, _/_, _%_, _^_, _≤_, _<_};
-ghost use Rattle.field.specs.Decode.{byteOf, wordsAnswer, paddingAnswer, decodeAnswer, payloadOf};
-ghost use Rattle.field.specs.Reading.{symbolsIn, padded, Says};
+ghost use Rattle.field.specs.Decode.{decodeAnswer, payloadOf};
+ghost use Rattle.field.specs.Reading.{bodyAnswer, bodyBytes, Says};
 use crate::bytes;
 use crate::padding;
 use crate::table;
@@ -50,7 +49,7 @@ pub(crate) fn read(field: &[u8], room: usize) -> Reading
 // Reads the words of a field, and then its `count` bits of padding.
 fn body(number: u64, size: usize, count: usize) -> Reading
     requires { ⌜ (size < 8) × (count ≤ 8) × (9 * size + count < 64) ⌝ }
-    ensures { λ r. ⌜ Says r (wordsAnswer 0 (symbolsIn size count number) (paddingAnswer (padded count number) size)) (map byteOf (symbolsIn size count number)) ⌝ }
+    ensures { λ r. ⌜ Says r (bodyAnswer size count number) (bodyBytes size count number) ⌝ }
 {
     let list = reverse_list::list();
     let mut payload: u64 = 0;

@@ -56,7 +56,9 @@ loop-again c =
     let h : i < length bytes = omega arith in
     let byte : getD bytes i 0 < 256 = omega (arith, c .shared-slice-known .given i) in (
       omega arith,
-      rw add-one (sym (number-unpacked 8 (c .before .before .loop .number) (getD bytes i 0) (drop (suc i) bytes) byte) ∙ rw (drop-cons {A = ℕ} bytes i 0 h) at (c .before .before .loop .inv .1)),
+      rw add-one
+          (sym (number-unpacked 8 (c .before .before .loop .number) (getD bytes i 0) (drop (suc i) bytes) byte)
+          ∙ rw (drop-cons {A = ℕ} bytes i 0 h) at (c .before .before .loop .inv .1)),
       omega (arith, pow-add 256 i 1),
     )
 

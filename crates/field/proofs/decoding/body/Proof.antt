@@ -19,18 +19,19 @@ use Rattle.words.specs.Symbols.{symbolOf}
 use Rattle.words.specs.declared.Symbol.{Symbol}
 use Rattle.words.proofs.Lists.{reverse-list-at}
 use Rattle.field.specs.Decode.{byteOf, wordsAnswer, paddingAnswer}
-use Rattle.field.specs.Reading.{symbolsIn, padded}
+use Rattle.field.specs.Reading.{padded, bodyAnswer, bodyBytes}
 use Rattle.field.proofs.decoding.body.Statement.{statement}
 use Rattle.field.proofs.decoding.body.Tie as tie
 
 -- the symbols l, as words from i on behind the bytes of `payload`, lead where all of the field's do
 record Leads (field size count i payload : ℕ) (l : List Symbol) : Type 0 where
-  to-answer : wordsAnswer i l (paddingAnswer (padded count field) size) ≡ wordsAnswer 0 (symbolsIn size count field) (paddingAnswer (padded count field) size)
-  to-payload : number payload (unpacked 8 (map byteOf l)) ≡ number 0 (unpacked 8 (map byteOf (symbolsIn size count field)))
+  to-answer : wordsAnswer i l (paddingAnswer (padded count field) size) ≡ bodyAnswer size count field
+  to-payload : number payload (unpacked 8 (map byteOf l)) ≡ number 0 (unpacked 8 (bodyBytes size count field))
 
 abbrev Inv-loop : tie.InvT-loop
 Inv-loop field size count list payload₀ at₀ i₀ payload at i =
-    (i ≤ size) × (at ≡ 9 * (size - i) + count) × (payload < 256 ^ i) × Leads field size count i payload (map symbolOf (packed 9 (size - i) (bits at field)))
+    (i ≤ size) × (at ≡ 9 * (size - i) + count) × (payload < 256 ^ i)
+    × Leads field size count i payload (map symbolOf (packed 9 (size - i) (bits at field)))
 
 abbrev μ-loop : tie.MeasureT-loop
 μ-loop field size count list payload₀ at₀ i₀ payload at i = size - i
@@ -40,8 +41,9 @@ room : (i : ℕ) → i < 7 → 256 ^ i ≤ 256 ^ 6
 room i h = pow-le-pow-right {n = 256} (lit< tt) {j = 6} (omega arith)
 
 -- what was looked up
-symbol : (c : tie.After-symbol-in Inv-loop μ-loop)
-    → c .symbol-in .result ≡ symbolOf (c .before .before .before .before .before .before .args .number / 2 ^ (c .before .before .before .before .loop .at - 9) % 2 ^ 9)
+symbol : (c : tie.After-symbol-in Inv-loop μ-loop) →
+    let field = c .before .before .before .before .before .before .args .number in
+    c .symbol-in .result ≡ symbolOf (field / 2 ^ (c .before .before .before .before .loop .at - 9) % 2 ^ 9)
 unfolding symbolOf
 symbol c =
     c .symbol-in .ensures ∙ rw (c .before .before .before .before .before .list .ensures, reverse-list-at, c .before .nine-at .ensures)
@@ -144,8 +146,9 @@ number-of-requires c κs = (omega arith, omega arith)
 
 returns-3 : tie.Need-returns-3 Inv-loop μ-loop
 returns-3 c =
+    let size = c .before .before .before .before .before .before .args .size in
     sym (end (c .before) .to-answer)
-    ∙ ap (λ (t : Bool). paddingAnswer t (c .before .before .before .before .before .before .args .size)) (sym (right (c .before)) ∙ ne-eqb _ _ (c .if1 .taken))
+    ∙ ap (λ (t : Bool). paddingAnswer t size) (sym (right (c .before)) ∙ ne-eqb _ _ (c .if1 .taken))
 
 returns-4 : tie.Need-returns-4 Inv-loop μ-loop
 unfolding number unpacked

@@ -74,7 +74,9 @@ loop-again c =
     let payload = c .before .before .before .before .before .args .payload .now in
     let h : i < length payload = omega arith in (
       omega arith,
-      rw (word c, add-one) (sym (number-unpacked 9 n _ _ (word-below _ (byte c))) ∙ rw (drop-cons {A = ℕ} payload i 0 h) at (c .before .before .before .loop .inv .1)),
+      rw (word c, add-one)
+          (sym (number-unpacked 9 n _ _ (word-below _ (byte c)))
+          ∙ rw (drop-cons {A = ℕ} payload i 0 h) at (c .before .before .before .loop .inv .1)),
       omega (arith, below c, pow-add 512 i 1),
     )
 
