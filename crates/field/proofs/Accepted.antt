@@ -1,4 +1,5 @@
 -- What an accepted field is, part by part. Assumes nothing.
+--     Accepted    the record of it
 --     accepted    each test that decoding makes was passed
 use mathlib.Core.Path.{_≡_, refl, sym, ap, subst}
 use mathlib.Core.Bool.{Bool, true, false, cond, not, _||_}

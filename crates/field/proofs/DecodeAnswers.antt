@@ -2,6 +2,7 @@
 --     decode-one, decode-long    3, a field of 1 byte or of more than 8
 --     decode-short      2, room short
 --     decode-broken     4, another bit in the break bit's place
+--     Begun, decode-body    a field that got so far: its words and its padding decide
 --     decode-escape     5, an escape behind bytes; the place is how many they are
 --     decode-no-word    6, the same of nine bits that are no word
 --     decode-padding    7, bytes, but behind them another padding
@@ -32,10 +33,9 @@ pub decode-one : (field : List ℕ) (room : ℕ) → length field ≡ 1 → deco
 unfolding decodeAnswer
 decode-one field room h = simp (eq-eqb _ _ h)
 
-pub decode-long : (field : List ℕ) (room : ℕ) → (length field ≡ 1 → ⊥) → 8 < length field
-    → decodeAnswer field room ≡ Refused (refusal.FieldLength 0)
+pub decode-long : (field : List ℕ) (room : ℕ) → 8 < length field → decodeAnswer field room ≡ Refused (refusal.FieldLength 0)
 unfolding decodeAnswer
-decode-long field room h g = simp (ne-eqb _ _ h, lt-ltb _ _ g)
+decode-long field room h = simp (ne-eqb (length field) 1 (λ e. omega arith), lt-ltb _ _ h)
 
 pub decode-short : (field : List ℕ) (room : ℕ) → LengthAllowed field → room < sizeOf field
     → decodeAnswer field room ≡ Refused refusal.RoomShort

@@ -1,7 +1,7 @@
 -- The answers of encoding, one law for each. Assumes nothing.
 --     encode-long       1, a payload of more than 7 bytes
 --     encode-short      2, room short
---     encode-accepts    (a) a payload of at most 7 bytes is accepted where its field has room
+--     encode-accepts    a payload of at most 7 bytes is accepted where its field has room
 use mathlib.Core.Path.{_≡_}
 use mathlib.Core.List.{List}
 use Prim.Native.Nat.{ℕ, _≤_, _<_}

@@ -1,5 +1,6 @@
 -- Document 01's worked cases of a data field that are to be proved, those marked *, as one statement over one list.
 -- Assumes nothing.
+--     starred-right    what the definitions give in each case is what the document says
 use mathlib.Core.Path.{_≡_, refl}
 use mathlib.Core.List.{List, [], _∷_, map}
 use Prim.Native.Nat.{ℕ}

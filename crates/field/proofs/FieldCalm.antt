@@ -1,4 +1,4 @@
--- (c) A field by itself has no five equal neighbours. Quiet means: draws no stuff bit. Assumes nothing.
+-- A field by itself has no five equal neighbours. Quiet means: draws no stuff bit. Assumes nothing.
 --     padding-quiet    padding draws no stuff bit behind a run of at most three
 --     payload-calm       the words of a payload are calm
 --     body-quiet       words and padding draw no stuff bit behind a run of at most two

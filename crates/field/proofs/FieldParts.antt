@@ -1,4 +1,6 @@
 -- The parts of a field, cut out of its number. Assumes nothing.
+--     LengthAllowed    a length that a field may have
+--     loaded, bodyBits    its bytes as one number, and how many bits of that are words and padding
 --     field-bits       how many bits a field has
 --     words-part       the words are cut out of the number
 --     break-right, break-wrong    the break bit is right exactly when the code's numbers for it are equal
@@ -120,7 +122,7 @@ padding-test field allowed =
 
 -- ---- the payload
 
-pub byte-below : (nine : ℕ) → byteOf (symbolOf nine) < 256
+byte-below : (nine : ℕ) → byteOf (symbolOf nine) < 256
 byte-below nine = go (symbolOf nine) refl
   where
     go : (y : Symbol) → symbolOf nine ≡ y → byteOf y < 256

@@ -1,4 +1,4 @@
--- (d) An accepted answer's length is what the table says. Assumes nothing.
+-- An accepted answer's length is what the table says. Assumes nothing.
 --     encode-length    the field has the bytes of the payload's row
 --     decode-length    the field had the bytes of the row of the payload that it gives
 use mathlib.Core.Path.{_≡_, refl, sym, ap, _∙_}

@@ -1,9 +1,9 @@
 -- Coding and decoding undo each other, of the definitions. Assumes nothing.
---     decode-encode       (a) the field of a payload of at most 7 bytes is accepted where the payload has room
---     payload-of-field    (a) and gives the payload back
---     field-of-payload    (b) whatever decoding accepts is the field of its payload
---     one-payload         (b) payloads with one field are one
---     one-field           (b) accepted fields with one payload are one
+--     decode-encode       the field of a payload of at most 7 bytes is accepted where the payload has room
+--     payload-of-field    and gives the payload back
+--     field-of-payload    whatever decoding accepts is the field of its payload
+--     one-payload         payloads with one field are one
+--     one-field           accepted fields with one payload are one
 use mathlib.Core.Path.{_≡_, refl, sym, ap, ap₂, _∙_}
 use mathlib.Core.List.{List, [], _∷_, _++_, map, append-nil}
 use Prim.Native.Nat.{ℕ, _-_, _*_, _≤_}

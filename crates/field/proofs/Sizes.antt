@@ -1,4 +1,5 @@
 -- The laws of the sizes. Assumes nothing.
+--     fieldBytes-is       the DLC is the size and one more
 --     sizes-fill          break bit, words and padding fill the field's bytes
 --     fieldBytes-few, paddingBits-few, body-few    a field fits 64 bits; padding has at most eight
 --     fieldBytes-back, size-back, fieldBytes-not-one    a field's bytes and its payload's decide each other
@@ -11,6 +12,10 @@ use lib.ListN.{length}
 use Rattle.bits.specs.Below.{Below}
 use Rattle.bits.specs.Rows.{number}
 use Rattle.field.specs.Sizes.{fieldBytes, breakBit, paddingBits}
+
+pub fieldBytes-is : (size : ℕ) → 0 < size → fieldBytes size ≡ size + 1
+fieldBytes-is zero h = absurd (omega arith)
+fieldBytes-is (suc size) h = omega arith
 
 pub sizes-fill : (size : ℕ) → size ≤ 7 → length (breakBit (fieldBytes size)) + 9 * size + paddingBits size ≡ 8 * fieldBytes size
 sizes-fill zero h = refl

@@ -1,12 +1,15 @@
-// Document 01's table: what the size of a payload decides of its field.
+// Document 01's table of eight rows by payload size.
 ghost use mathlib.Core.Path.{_≡_};
 ghost use Prim.Native.Nat.{_<_};
 ghost use Rattle.field.specs.Table.{rowOf, rows};
 
-// How many bytes the field has, which is the DLC; its break bit, 0 in the empty field, which has none; how many bits of padding.
+// What the size of a payload decides of its field.
 pub struct Row {
+    // How many bytes the field has, which is the DLC.
     pub bytes: usize,
+    // The break bit; 0 in the empty field, which has none.
     pub break_bit: u64,
+    // How many bits of padding there are.
     pub padding: usize,
 }
 

@@ -20,7 +20,7 @@ returns : tie.Need-returns
 returns c = decode-one _ _ (c .if1 .taken)
 
 returns-2 : tie.Need-returns-2
-returns-2 c = decode-long (c .before .before .before .args .field .now) _ (c .before .if1 .left) (omega arith)
+returns-2 c = decode-long (c .before .before .before .args .field .now) _ (omega arith)
 
 size-of-requires : tie.Need-size-of-requires
 size-of-requires c κs = search needs
