@@ -1,5 +1,5 @@
 -- The answers of decoding, one law for each. Assumes nothing.
---     decode-one, decode-long    3, a field of 1 byte or of more than 8
+--     decode-long, decode-one    3, a field of more than 8 bytes or of 1
 --     decode-short      2, room short
 --     decode-broken     4, another bit in the break bit's place
 --     Begun, decode-body    a field that got so far: its words and its padding decide
@@ -29,13 +29,13 @@ use Rattle.field.specs.Parts.{sizeOf, breakPart, paddingPart, symbolsOf}
 use Rattle.field.specs.Decode.{wordsAnswer, paddingAnswer, decodeAnswer}
 use Rattle.field.proofs.FieldParts.{LengthAllowed}
 
-pub decode-one : (field : List ℕ) (room : ℕ) → length field ≡ 1 → decodeAnswer field room ≡ Refused (refusal.FieldLength 0)
-unfolding decodeAnswer
-decode-one field room h = simp (eq-eqb _ _ h)
-
 pub decode-long : (field : List ℕ) (room : ℕ) → 8 < length field → decodeAnswer field room ≡ Refused (refusal.FieldLength 0)
 unfolding decodeAnswer
 decode-long field room h = simp (ne-eqb (length field) 1 (λ e. omega arith), lt-ltb _ _ h)
+
+pub decode-one : (field : List ℕ) (room : ℕ) → length field ≡ 1 → decodeAnswer field room ≡ Refused (refusal.FieldLength 0)
+unfolding decodeAnswer
+decode-one field room h = simp (eq-eqb _ _ h)
 
 pub decode-short : (field : List ℕ) (room : ℕ) → LengthAllowed field → room < sizeOf field
     → decodeAnswer field room ≡ Refused refusal.RoomShort
