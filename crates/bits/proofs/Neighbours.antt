@@ -5,7 +5,7 @@ use mathlib.Core.Path.{_≡_, refl, sym, ap, _∙_}
 use mathlib.Core.Bool.{Bool, true, false, not, cond, _&&_, _||_, Bool·not-not}
 use mathlib.Core.List.{List, [], _∷_}
 use Prim.Native.Nat.{ℕ, zero, suc, _+_, _-_, _≤_}
-use native.Mathlib.Nat.{zero-add, not-suc-le-zero, le-of-suc-le-suc}
+use native.Mathlib.Nat.{zero-add, le-trans, not-suc-le-zero, le-of-suc-le-suc}
 use native.Mathlib.Omega.{arith}
 use lib.Arith.{le-of-le-suc-ne}
 use lib.Dec.{eqb}
@@ -13,6 +13,7 @@ use lib.ListN.{length}
 use borrow.Author.Tests.{eqb-true, eqb-false, eq-eqb, ne-eqb}
 use Rattle.bits.specs.Neighbours.{begins, equalNeighbours}
 use Rattle.bits.specs.Stuffing.{Run, nothingSent, counted, fifth, stuffAfter, runAfter, stuffCount}
+use Rattle.bits.proofs.Stuffing.{counted-at-most}
 
 -- five equal bits in a row behind a run, those of the run counted
 five : Run → List ℕ → Bool
@@ -61,13 +62,7 @@ fifth-five r b l h e = go (eqb b (r .bit)) refl (eqb-true (counted r b) 5 e)
     go true p q = let last : 5 - r .count ≡ 1 = omega arith in rw (last, p)
     go false p q = absurd (omega arith)
 
-counted-few : (r : Run) (b : ℕ) → r .count ≤ 4 → counted r b ≤ 5
-counted-few r b h = go (eqb b (r .bit))
-  where
-    go : (t : Bool) → cond t (r .count + 1) 1 ≤ 5
-    go true = omega arith
-    go false = omega arith
-
+-- no stuff bit behind a run of at most four: no five, those of the run counted
 none-behind : (r : Run) (l : List ℕ) → r .count ≤ 4 → eqb (stuffCount r l) 0 ≡ not (five r l)
 unfolding stuffAfter runAfter stuffCount five equalNeighbours
 none-behind r [] h = let some : 5 - r .count ≡ suc (4 - r .count) = omega arith in rw some
@@ -83,7 +78,7 @@ none-behind r (b ∷ l) h = go (fifth r b) refl (none-behind (record { bit = b; 
     go false e rest =
         let fewer : counted r b ≡ 5 → ⊥ = eqb-false (counted r b) 5 e in
         ap (λ (n : ℕ). eqb n 0) (zero-add (stuffCount (record { bit = b; count = counted r b }) l))
-        ∙ rest (le-of-le-suc-ne (counted-few r b h) fewer)
+        ∙ rest (le-of-le-suc-ne (le-trans (counted-at-most r b) (omega arith)) fewer)
         ∙ ap not (next-five r b l h)
 
 -- no run reaches in from before the row

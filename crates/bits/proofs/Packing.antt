@@ -12,7 +12,7 @@
 use mathlib.Core.Path.{_≡_, refl, sym, ap, ap₂, _∙_}
 use mathlib.Core.List.{List, [], _∷_, _++_, append-assoc, append-nil}
 use Prim.Native.Nat.{ℕ, zero, suc, _+_, _-_, _*_, _/_, _%_, _^_, _≤_, _<_}
-use native.Mathlib.Nat.{lt-of-lt-of-le, not-suc-le-zero, le-of-suc-le-suc, zero-mul, mul-zero, mul-suc, zero-add, mod-eq-of-lt, add-comm}
+use native.Mathlib.Nat.{lt-of-lt-of-le, not-suc-le-zero, le-of-suc-le-suc, mul-zero, mul-suc, mod-eq-of-lt, add-comm}
 use native.Mathlib.Omega.{arith}
 use lib.ListN.{length, getD, take, drop, length-append, length-take, length-drop}
 use lib.Pow.{pow-mono}
@@ -21,7 +21,7 @@ use Rattle.bits.specs.Below.{Below}
 use Rattle.bits.specs.Rows.{bits, number}
 use Rattle.bits.specs.Packing.{unpacked, packed}
 use Rattle.bits.proofs.Below.{below-append, below-take, below-drop}
-use Rattle.bits.proofs.Rows.{bits-length, bits-below, bits-split, number-append, number-bits, number-below, bits-number}
+use Rattle.bits.proofs.Rows.{bits-length, bits-below, bits-split, number-append, number-bits, number-low, number-below, bits-number}
 
 pub unpacked-length : (k : ℕ) (l : List ℕ) → length (unpacked k l) ≡ k * length l
 unfolding unpacked
@@ -40,17 +40,13 @@ unfolding packed
 packed-length k zero l = refl
 packed-length k (suc n) l = ap suc (packed-length k n _)
 
--- the number of a number's k bits is that number
-number-of-bits : (k x : ℕ) → x < 2 ^ k → number 0 (bits k x) ≡ x
-number-of-bits k x h = number-bits 0 k x ∙ rw (zero-mul, zero-add) (mod-eq-of-lt h)
-
 pub packed-unpacked : (k : ℕ) (l m : List ℕ) → Below (2 ^ k) l → packed k (length l) (unpacked k l ++ m) ≡ l
 unfolding unpacked packed
 packed-unpacked k [] m h = refl
 packed-unpacked k (x ∷ l) m h =
     let rest = unpacked k l ++ m in
     rw append-assoc
-    (ap₂ _∷_ (ap (number 0) (take-at (bits k x) rest k (bits-length k x)) ∙ number-of-bits k x (h .0))
+    (ap₂ _∷_ (ap (number 0) (take-at (bits k x) rest k (bits-length k x)) ∙ number-low k x ∙ mod-eq-of-lt (h .0))
     (ap (packed k (length l)) (drop-at (bits k x) rest k (bits-length k x)) ∙ packed-unpacked k l m (h .1)))
 
 pub unpacked-packed : (k n : ℕ) (l : List ℕ) → Below 2 l → k * n ≤ length l → unpacked k (packed k n l) ≡ take (k * n) l
@@ -74,8 +70,7 @@ unfolding packed
 packed-bits k n j v =
     ap (packed k (suc n)) (bits-split k j v)
     ∙ ap₂ _∷_
-    (ap (number 0) (take-at (bits k (v / 2 ^ j)) (bits j v) k (bits-length k (v / 2 ^ j)))
-    ∙ number-bits 0 k (v / 2 ^ j) ∙ rw (zero-mul, zero-add))
+    (ap (number 0) (take-at (bits k (v / 2 ^ j)) (bits j v) k (bits-length k (v / 2 ^ j))) ∙ number-low k (v / 2 ^ j))
     (ap (packed k n) (drop-at (bits k (v / 2 ^ j)) (bits j v) k (bits-length k (v / 2 ^ j))))
 
 pub packed-next : (k n i at v : ℕ) → i < n → k ≤ at

@@ -2,7 +2,8 @@
 --     bits-length, bits-below    k bits, each 0 or 1
 --     bits-split       the bits of a number in two parts
 --     number-append    a row behind a row
---     number-bits      the number of a number's bits
+--     number-bits      the number of a number's bits behind those of a
+--     number-low       and of its k lowest bits alone
 --     number-from      what stands before a row counts as so many times the row's power
 --     number-below     a row of k bits writes a number of k bits
 --     bits-number      the bits of a row's number are the row
@@ -45,6 +46,9 @@ unfolding bits number
 number-bits a zero n = rw (pow-zero, mul-one, mod-one, add-zero)
 number-bits a (suc k) n =
     number-bits (a * 2 + n / 2 ^ k % 2) k n ∙ rw (pow-succ', mod-mul n {m = 2} {c = 2 ^ k} (lit< tt) (pow-pos k), add-mul, mul-assoc, add-assoc)
+
+pub number-low : (k n : ℕ) → number 0 (bits k n) ≡ n % 2 ^ k
+number-low k n = number-bits 0 k n ∙ rw (zero-mul, zero-add)
 
 pub number-from : (a : ℕ) (l : List ℕ) → number a l ≡ a * 2 ^ length l + number 0 l
 unfolding number

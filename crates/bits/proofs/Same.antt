@@ -1,6 +1,7 @@
 -- The laws of the test whether two lists are the same. Assumes nothing.
 --     same-eq        lists that pass it are equal
 --     eq-same        equal lists pass it
+--     ne-same        others do not
 --     same-number    of two rows of one length it compares the numbers that they write
 use mathlib.Core.Path.{_≡_, refl, sym, ap, ap₂, _∙_, subst}
 use mathlib.Core.Bool.{Bool, true, false}
@@ -27,13 +28,16 @@ pub eq-same : (l : List ℕ) → same l l ≡ true
 eq-same [] = refl
 eq-same (x ∷ l) = rw (eq-eqb x x refl) (eq-same l)
 
-pub same-number : (l m : List ℕ) → Below 2 l → Below 2 m → length l ≡ length m → same l m ≡ eqb (number 0 l) (number 0 m)
-same-number l m h g e = go (same l m) refl (eqb (number 0 l) (number 0 m)) refl
+pub ne-same : (l m : List ℕ) → (l ≡ m → ⊥) → same l m ≡ false
+ne-same l m ne = go (same l m) refl
   where
-    go : (a : Bool) → same l m ≡ a → (b : Bool) → eqb (number 0 l) (number 0 m) ≡ b → a ≡ b
-    go true p true q = refl
-    go true p false q = absurd (eqb-false (number 0 l) (number 0 m) q (ap (number 0) (same-eq l m (subst T (sym p) tt))))
-    go false p true q =
-        let equal : l ≡ m = number-only l m h g e (eqb-true (number 0 l) (number 0 m) q) in
-        sym p ∙ ap (same l) (sym equal) ∙ eq-same l
-    go false p false q = refl
+    go : (t : Bool) → same l m ≡ t → t ≡ false
+    go true e = absurd (ne (same-eq l m (subst T (sym e) tt)))
+    go false e = refl
+
+pub same-number : (l m : List ℕ) → Below 2 l → Below 2 m → length l ≡ length m → same l m ≡ eqb (number 0 l) (number 0 m)
+same-number l m h g e = go (eqb (number 0 l) (number 0 m)) refl
+  where
+    go : (t : Bool) → eqb (number 0 l) (number 0 m) ≡ t → same l m ≡ t
+    go true q = ap (same l) (sym (number-only l m h g e (eqb-true (number 0 l) (number 0 m) q))) ∙ eq-same l
+    go false q = ne-same l m (λ equal. eqb-false (number 0 l) (number 0 m) q (ap (number 0) equal))

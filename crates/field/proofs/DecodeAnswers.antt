@@ -2,22 +2,21 @@
 --     decode-long, decode-one    3, a field of more than 8 bytes or of 1
 --     decode-short      2, room short
 --     decode-broken     4, another bit in the break bit's place
---     Begun, decode-body    a field that got so far: its words and its padding decide
+--     Begun, decode-body    a field whose length, room and break bit are right: its words and its padding decide
 --     decode-escape     5, an escape behind bytes; the place is how many they are
 --     decode-no-word    6, the same of nine bits that are no word
 --     decode-padding    7, bytes, but behind them another padding
 --     decode-accepts    the payload's length, where all is right
-use mathlib.Core.Path.{_≡_, refl, sym, ap, _∙_, subst}
-use mathlib.Core.Bool.{Bool, true, false}
+use mathlib.Core.Path.{_≡_, sym, ap, _∙_}
+use mathlib.Core.Bool.{Bool}
 use mathlib.Core.List.{List, [], _∷_, _++_, map, append-nil}
 use Prim.Native.Nat.{ℕ, _+_, _≤_, _<_}
 use native.Mathlib.Nat.{add-zero, zero-add}
 use native.Mathlib.Omega.{arith}
-use lib.Dec.{T}
 use lib.ListN.{length}
 use borrow.Author.Tests.{eq-eqb, ne-eqb, lt-ltb, le-ltb}
 use Rattle.bits.specs.Same.{same}
-use Rattle.bits.proofs.Same.{same-eq, eq-same}
+use Rattle.bits.proofs.Same.{eq-same, ne-same}
 use Rattle.refusals.specs.declared.Answer.{Answer}
 use Rattle.refusals.specs.declared.Answer.the-variants.{Length, Refused}
 use Rattle.refusals.specs.declared.Refusal.the-variants as refusal
@@ -42,20 +41,13 @@ pub decode-short : (field : List ℕ) (room : ℕ) → LengthAllowed field → r
 unfolding decodeAnswer
 decode-short field room allowed h = simp (ne-eqb _ _ (allowed .not-one), le-ltb _ _ (allowed .at-most), lt-ltb _ _ h)
 
-differ : (l m : List ℕ) → (l ≡ m → ⊥) → same l m ≡ false
-differ l m ne = go (same l m) refl
-  where
-    go : (t : Bool) → same l m ≡ t → t ≡ false
-    go true e = absurd (ne (same-eq l m (subst T (sym e) tt)))
-    go false e = refl
-
 pub decode-broken : (field : List ℕ) (room : ℕ) → LengthAllowed field → sizeOf field ≤ room
     → (breakPart field ≡ breakBit (length field) → ⊥) → decodeAnswer field room ≡ Refused refusal.BreakBit
 unfolding decodeAnswer
 decode-broken field room allowed h ne =
-    simp (ne-eqb _ _ (allowed .not-one), le-ltb _ _ (allowed .at-most), le-ltb _ _ h, differ _ _ ne)
+    simp (ne-eqb _ _ (allowed .not-one), le-ltb _ _ (allowed .at-most), le-ltb _ _ h, ne-same _ _ ne)
 
--- what stands behind the right break bit
+-- a field whose length, room and break bit are right
 pub record Begun (field : List ℕ) (room : ℕ) : Type 0 where
   pub allowed : LengthAllowed field
   pub fits : sizeOf field ≤ room
@@ -100,7 +92,7 @@ pub decode-padding : (field bytes : List ℕ) (room : ℕ) → Begun field room 
     → decodeAnswer field room ≡ Refused refusal.Padding
 decode-padding field bytes room begun e ne =
     stops field bytes [] room begun (e ∙ sym (append-nil (map Byte bytes)))
-    ∙ ap (λ (t : Bool). paddingAnswer t (sizeOf field)) (differ _ _ ne)
+    ∙ ap (λ (t : Bool). paddingAnswer t (sizeOf field)) (ne-same _ _ ne)
 
 pub decode-accepts : (field bytes : List ℕ) (room : ℕ) → Begun field room → symbolsOf field ≡ map Byte bytes
     → paddingPart field ≡ padding 0 (paddingBits (sizeOf field))

@@ -1,17 +1,17 @@
 -- A field by itself has no five equal neighbours. Quiet means: draws no stuff bit. Assumes nothing.
 --     padding-quiet    padding draws no stuff bit behind a run of at most three
---     payload-calm       the words of a payload are calm
+--     payload-calm     the words of a payload are calm
 --     body-quiet       words and padding draw no stuff bit behind a run of at most two
 --     field-quiet      a field draws none where nothing was sent before it
 --     field-no-five    its bits have no five equal neighbours
 --     bytes-no-five    nor have the bits of its bytes
 use mathlib.Core.Path.{_≡_, refl, ap, _∙_}
-use mathlib.Core.Bool.{Bool, true, false, cond}
+use mathlib.Core.Bool.{false}
 use mathlib.Core.List.{List, [], _∷_, _++_}
 use Prim.Native.Nat.{ℕ, zero, suc, _+_, _-_, _≤_, _<_}
 use native.Mathlib.Nat.{zero-add}
 use native.Mathlib.Omega.{arith}
-use lib.Dec.{lit<, eqb}
+use lib.Dec.{lit<}
 use lib.ListN.{length}
 use borrow.Author.Tests.{ne-eqb}
 use Rattle.bits.specs.Below.{Below}
@@ -20,7 +20,7 @@ use Rattle.bits.specs.Packing.{unpacked}
 use Rattle.bits.specs.Neighbours.{equalNeighbours}
 use Rattle.bits.specs.Stuffing.{Run, nothingSent, counted, stuffAfter, runAfter, stuffCount, runAfterRow}
 use Rattle.bits.specs.Calm.{Short, CalmAfter, Calm}
-use Rattle.bits.proofs.Stuffing.{stuffCount-append}
+use Rattle.bits.proofs.Stuffing.{counted-at-most, stuffCount-append}
 use Rattle.bits.proofs.Neighbours.{no-five-neighbours}
 use Rattle.bits.proofs.Calm.{calm-append}
 use Rattle.words.specs.Words.{wordOf}
@@ -42,13 +42,8 @@ pub padding-quiet : (r : Run) (first count : ℕ) → first < 2 → r .count ≤
 unfolding stuffAfter runAfter stuffCount padding
 padding-quiet r first zero h g = refl
 padding-quiet r first (suc count) h g =
-    let few : counted r first ≤ 4 = counted-few (eqb first (r .bit)) in
-    simp (ne-eqb (counted r first) 5 (λ e. omega arith))
+    simp (ne-eqb (counted r first) 5 (λ e. omega (arith, counted-at-most r first)))
     (zero-add _ ∙ alternating (record { bit = first; count = counted r first }) count h)
-  where
-    counted-few : (same : Bool) → cond same (r .count + 1) 1 ≤ 4
-    counted-few true = omega arith
-    counted-few false = omega arith
 
 pub payload-calm : (payload : List ℕ) → Below 256 payload → Calm (wordBits payload)
 unfolding unpacked stuffCount runAfterRow

@@ -9,7 +9,6 @@
 use mathlib.Core.Path.{_≡_, refl, sym, ap, _∙_}
 use mathlib.Core.List.{List, [], _∷_, _++_, map}
 use Prim.Native.Nat.{ℕ, _+_, _*_, _/_, _^_, _≤_, _<_}
-use native.Mathlib.Nat.{zero-mul, zero-add}
 use native.Mathlib.Omega.{arith}
 use lib.Dec.{lit<, eqb}
 use lib.ListN.{length, take, drop, length-map}
@@ -19,7 +18,7 @@ use Rattle.bits.specs.Below.{Below}
 use Rattle.bits.specs.Rows.{bits, number}
 use Rattle.bits.specs.Packing.{unpacked, packed}
 use Rattle.bits.specs.Same.{same}
-use Rattle.bits.proofs.Rows.{bits-length, bits-below, bits-split, bits-number, number-bits, number-below, number-only}
+use Rattle.bits.proofs.Rows.{bits-length, bits-below, bits-split, bits-number, number-low, number-below, number-only}
 use Rattle.bits.proofs.Packing.{unpacked-length, unpacked-below, packed-length}
 use Rattle.bits.proofs.Same.{same-number}
 use Rattle.words.specs.Symbols.{symbolOf}
@@ -82,8 +81,8 @@ break-number field allowed =
     let few : loaded field < 2 ^ (start + bodyBits field)
     = rw (field-bits field allowed) at (number-below (unpacked 8 field) (unpacked-below 8 field)) in
     ap (number 0) (break-part field allowed)
-    ∙ number-bits 0 start (loaded field / 2 ^ bodyBits field)
-    ∙ rw (zero-mul, zero-add) (shr-mod start (bodyBits field) few)
+    ∙ number-low start (loaded field / 2 ^ bodyBits field)
+    ∙ shr-mod start (bodyBits field) few
 
 pub break-right : (field : List ℕ) (high bit : ℕ) → LengthAllowed field
     → high ≡ loaded field / 2 ^ bodyBits field → bit ≡ number 0 (breakBit (length field)) → high ≡ bit → breakPart field ≡ breakBit (length field)
@@ -118,7 +117,7 @@ padding-test field allowed =
     let long = bits-length count (loaded field) ∙ sym (padding-length 0 count) in
     ap (λ (l : List ℕ). same l (padding 0 count)) (padding-part field allowed)
     ∙ same-number row (padding 0 count) (bits-below count (loaded field)) (padding-below 0 count (lit< tt)) long
-    ∙ ap (λ (n : ℕ). eqb n (number 0 (padding 0 count))) (number-bits 0 count (loaded field) ∙ rw (zero-mul, zero-add))
+    ∙ ap (λ (n : ℕ). eqb n (number 0 (padding 0 count))) (number-low count (loaded field))
 
 -- ---- the payload
 
