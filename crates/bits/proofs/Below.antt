@@ -1,8 +1,9 @@
 -- The laws of lists of numbers below a bound. Assumes nothing.
 --     below-append, below-take, below-drop
+--     below-at    each number of the list is below the bound
 use mathlib.Core.List.{List, [], _∷_, _++_}
-use Prim.Native.Nat.{ℕ, zero, suc}
-use lib.ListN.{take, drop}
+use Prim.Native.Nat.{ℕ, zero, suc, _<_}
+use lib.ListN.{getD, take, drop}
 use Rattle.bits.specs.Below.{Below}
 
 pub below-append : (b : ℕ) (l m : List ℕ) → Below b l → Below b m → Below b (l ++ m)
@@ -18,3 +19,7 @@ pub below-drop : (b k : ℕ) (l : List ℕ) → Below b l → Below b (drop k l)
 below-drop b zero l h = h
 below-drop b (suc k) [] h = tt
 below-drop b (suc k) (x ∷ l) h = below-drop b k l (h .1)
+
+pub below-at : (b : ℕ) (l : List ℕ) → ((i : ℕ) → getD l i 0 < b) → Below b l
+below-at b [] h = tt
+below-at b (x ∷ l) h = (h zero, below-at b l (λ i. h (suc i)))

@@ -5,7 +5,8 @@
 --     unpacked-at         number i of an unpacked list stands in the k bits from k * i on
 --     packed-unpacked     what was unpacked is packed again, whatever stands behind it
 --     unpacked-packed     what was packed is unpacked again
---     packed-number       the numbers in the bits of a list's own number are the list
+--     bits-unpacked       the bits of a list's own number are those of the list
+--     packed-number       and the numbers in them are the list
 --     number-unpacked     the number of an unpacked list, one more of its numbers taken in
 --     packed-bits         the first of the numbers in the bits of a number, and those behind it
 --     packed-next         the same where a loop counts up to n and down the bits: the numbers that are left, and the next of them
@@ -80,12 +81,13 @@ packed-next k n i at v h g =
     let down : at ≡ k + (at - k) = omega arith in
     ap₂ (λ (m j : ℕ). packed k m (bits j v)) count down ∙ packed-bits k (n - (i + 1)) (at - k) v
 
+pub bits-unpacked : (k n v : ℕ) (l : List ℕ) → n ≡ length l → v ≡ number 0 (unpacked k l) → bits (k * n) v ≡ unpacked k l
+bits-unpacked k n v l en ev =
+    ap₂ bits (ap (k *_) en ∙ sym (unpacked-length k l)) ev ∙ bits-number 0 (unpacked k l) (unpacked-below k l)
+
 pub packed-number : (k n v : ℕ) (l : List ℕ) → Below (2 ^ k) l → n ≡ length l → v ≡ number 0 (unpacked k l) → packed k n (bits (k * n) v) ≡ l
 packed-number k n v l h en ev =
-    let row = unpacked k l in
-    let long : k * n ≡ length row = ap (k *_) en ∙ sym (unpacked-length k l) in
-    ap₂ (λ (m : ℕ) (r : List ℕ). packed k m r) en (ap₂ bits long ev ∙ bits-number 0 row (unpacked-below k l) ∙ sym (append-nil row))
-    ∙ packed-unpacked k l [] h
+    ap₂ (packed k) en (bits-unpacked k n v l en ev ∙ sym (append-nil (unpacked k l))) ∙ packed-unpacked k l [] h
 
 pub packed-below : (k n : ℕ) (l : List ℕ) → Below 2 l → Below (2 ^ k) (packed k n l)
 unfolding packed

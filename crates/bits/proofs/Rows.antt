@@ -1,5 +1,6 @@
 -- The laws of rows and their numbers. Assumes nothing.
 --     bits-length, bits-below    k bits, each 0 or 1
+--     bits-next        the next bit where a loop counts down the bits that are left
 --     bits-split       the bits of a number in two parts
 --     number-append    a row behind a row
 --     number-bits      the number of a number's bits behind those of a
@@ -8,10 +9,12 @@
 --     number-below     a row of k bits writes a number of k bits
 --     bits-number      the bits of a row's number are the row
 --     number-only      rows of one length that write one number are one row
+--     bits-join        two numbers put together: the bits of the one, and behind them those of the other
 use mathlib.Core.Path.{_≡_, refl, sym, ap, ap₂, _∙_}
 use mathlib.Core.List.{List, [], _∷_, _++_}
-use Prim.Native.Nat.{ℕ, zero, suc, _+_, _*_, _/_, _%_, _^_, _<_}
-use native.Mathlib.Nat.{zero-add, add-zero, suc-add, add-comm, add-assoc, zero-mul, mul-one, add-mul, mul-assoc, pow-zero, pow-succ', mod-lt, mod-one}
+use Prim.Native.Nat.{ℕ, zero, suc, _+_, _-_, _*_, _/_, _%_, _^_, _<_}
+use native.Mathlib.Nat.{zero-add, add-zero, suc-add, add-comm, add-assoc, zero-mul, mul-one, add-mul, mul-assoc, pow-zero, pow-succ', mod-lt, mod-one, mod-eq-of-lt}
+use native.Mathlib.Omega.{arith}
 use lib.Arith.{digits-lt, digits-mod, mod-mul}
 use lib.Dec.{lit<}
 use lib.ListN.{length}
@@ -28,6 +31,11 @@ pub bits-below : (k n : ℕ) → Below 2 (bits k n)
 unfolding bits
 bits-below zero n = tt
 bits-below (suc k) n = (mod-lt _ (lit< tt), bits-below k _)
+
+pub bits-next : (k n : ℕ) → 0 < k → bits k n ≡ (n / 2 ^ (k - 1) % 2) ∷ bits (k - 1) n
+unfolding bits
+bits-next zero n h = absurd (omega arith)
+bits-next (suc k) n h = let less : suc k - 1 ≡ k = omega arith in rw less
 
 pub bits-split : (j k n : ℕ) → bits (j + k) n ≡ bits j (n / 2 ^ k) ++ bits k n
 unfolding bits
@@ -72,3 +80,10 @@ bits-number a (b ∷ l) h =
 
 pub number-only : (l m : List ℕ) → Below 2 l → Below 2 m → length l ≡ length m → number 0 l ≡ number 0 m → l ≡ m
 number-only l m h g e n = sym (bits-number 0 l h) ∙ ap₂ bits e n ∙ bits-number 0 m g
+
+pub bits-join : (j k a b : ℕ) → b < 2 ^ k → bits (j + k) (a * 2 ^ k + b) ≡ bits j a ++ bits k b
+bits-join j k a b h =
+    let low : number a (bits k b) ≡ a * 2 ^ k + b = number-bits a k b ∙ ap (λ (n : ℕ). a * 2 ^ k + n) (mod-eq-of-lt h) in
+    bits-split j k (a * 2 ^ k + b)
+    ∙ ap₂ (λ (n : ℕ) (l : List ℕ). bits j n ++ l) (high a k h)
+    (ap₂ bits (sym (bits-length k b)) (sym low) ∙ bits-number a (bits k b) (bits-below k b))

@@ -2,7 +2,8 @@
 use mathlib.Core.Path.{_≡_}
 use mathlib.Core.List.{List}
 use Prim.Native.Nat.{ℕ, _≤_, _<_}
-use Rattle.bits.specs.Stuffing.{Run, stuffCount, runAfterRow}
+use Rattle.bits.specs.declared.Run.{Run}
+use Rattle.bits.specs.Stuffing.{stuffCount, runAfterRow}
 
 -- a run of at most two bits
 pub record Short (r : Run) : Type 0 where

@@ -5,11 +5,7 @@ use mathlib.Core.Bool.{Bool, cond}
 use mathlib.Core.List.{List, [], _∷_, _++_}
 use lib.Dec.{eqb}
 use lib.ListN.{length}
-
--- the run of equal bits that ends what was sent: its bit, and how many they are
-pub record Run : Type 0 where
-  pub bit : ℕ
-  pub count : ℕ
+use Rattle.bits.specs.declared.Run.{Run}
 
 -- no run reaches in from before the first bit
 abbrev pub nothingSent : Run

@@ -3,13 +3,14 @@
 --     payload-calm     the words of a payload are calm
 --     body-quiet       words and padding draw no stuff bit behind a run of at most two
 --     field-quiet      a field draws none where nothing was sent before it
+--     quiet-behind-dlc    nor behind the DLC, whatever was sent before: the break bit is not the DLC's lowest bit
 --     field-no-five    its bits have no five equal neighbours
 --     bytes-no-five    nor have the bits of its bytes
 use mathlib.Core.Path.{_≡_, refl, ap, _∙_}
 use mathlib.Core.Bool.{false}
 use mathlib.Core.List.{List, [], _∷_, _++_}
-use Prim.Native.Nat.{ℕ, zero, suc, _+_, _-_, _≤_, _<_}
-use native.Mathlib.Nat.{zero-add}
+use Prim.Native.Nat.{ℕ, zero, suc, _+_, _-_, _%_, _≤_, _<_}
+use native.Mathlib.Nat.{zero-add, mod-lt}
 use native.Mathlib.Omega.{arith}
 use lib.Dec.{lit<}
 use lib.ListN.{length}
@@ -18,11 +19,12 @@ use Rattle.bits.specs.Below.{Below}
 use Rattle.bits.specs.Rows.{bits}
 use Rattle.bits.specs.Packing.{unpacked}
 use Rattle.bits.specs.Neighbours.{equalNeighbours}
-use Rattle.bits.specs.Stuffing.{Run, nothingSent, counted, stuffAfter, runAfter, stuffCount, runAfterRow}
+use Rattle.bits.specs.declared.Run.{Run}
+use Rattle.bits.specs.Stuffing.{nothingSent, counted, stuffAfter, runAfter, stuffCount, runAfterRow}
 use Rattle.bits.specs.Calm.{Short, CalmAfter, Calm}
 use Rattle.bits.proofs.Stuffing.{counted-at-most, stuffCount-append}
 use Rattle.bits.proofs.Neighbours.{no-five-neighbours}
-use Rattle.bits.proofs.Calm.{calm-append}
+use Rattle.bits.proofs.Calm.{calm-append, other-calm}
 use Rattle.words.specs.Words.{wordOf}
 use Rattle.words.proofs.Words.{word-calm}
 use Rattle.field.specs.Sizes.{fieldBytes, breakBit, paddingBits}
@@ -73,18 +75,30 @@ break-calm (suc n) = go _ (omega arith)
     go (suc zero) h = record { no-stuff = refl; short = record { bit-is = lit< tt; few = omega arith } }
     go (suc (suc b)) h = absurd (omega arith)
 
-pub field-quiet : (payload : List ℕ) → Below 256 payload → stuffCount nothingSent (fieldBits payload) ≡ 0
+-- behind a run after which the break bit is calm
+quiet-behind : (r : Run) (payload : List ℕ) → CalmAfter r (breakBit (fieldBytes (length payload))) → Below 256 payload
+    → stuffCount r (fieldBits payload) ≡ 0
 unfolding fieldBits
-field-quiet payload b =
+quiet-behind r payload first b =
     let size = length payload in
-    let first = break-calm (fieldBytes size) in
     let rest = wordBits payload ++ padding 0 (paddingBits size) in
     omega (
       arith,
-      stuffCount-append nothingSent (breakBit (fieldBytes size)) rest,
+      stuffCount-append r (breakBit (fieldBytes size)) rest,
       first .no-stuff,
-      body-quiet (runAfterRow nothingSent (breakBit (fieldBytes size))) payload 0 (paddingBits size) (first .short) b (lit< tt),
+      body-quiet (runAfterRow r (breakBit (fieldBytes size))) payload 0 (paddingBits size) (first .short) b (lit< tt),
     )
+
+pub field-quiet : (payload : List ℕ) → Below 256 payload → stuffCount nothingSent (fieldBits payload) ≡ 0
+field-quiet payload b = quiet-behind nothingSent payload (break-calm (fieldBytes (length payload))) b
+
+pub quiet-behind-dlc : (r : Run) (payload : List ℕ) → Below 256 payload
+    → stuffCount (runAfter r (fieldBytes (length payload) % 2)) (fieldBits payload) ≡ 0
+unfolding stuffCount unpacked padding fieldBits
+quiet-behind-dlc r [] b = refl
+quiet-behind-dlc r (x ∷ l) b =
+    let n = fieldBytes (length (x ∷ l)) in
+    quiet-behind (runAfter r (n % 2)) (x ∷ l) (other-calm r (n % 2) (mod-lt n (lit< tt))) b
 
 pub field-no-five : (payload : List ℕ) → Below 256 payload → equalNeighbours 5 (fieldBits payload) ≡ false
 field-no-five payload b = no-five-neighbours (fieldBits payload) (field-quiet payload b)
