@@ -1,7 +1,9 @@
 pub mod Sizes
+pub mod TableRows
 pub mod PaddingBits
 pub mod FieldBits
 pub mod Stored
+pub mod Coded
 pub mod FieldParts
 pub mod EncodeAnswers
 pub mod DecodeAnswers
@@ -11,4 +13,3 @@ pub mod Accepted
 pub mod RoundTrip
 pub mod Lengths
 pub mod FieldCalm
-pub mod Examples

@@ -6,3 +6,4 @@ pub mod Encode
 pub mod Parts
 pub mod Decode
 pub mod Reading
+pub mod Coded

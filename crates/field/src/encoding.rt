@@ -1,17 +1,39 @@
-// A payload's field as one number.
+// A payload's field as one number: what encoding stores, and what a frame sends.
 ghost use mathlib.Core.Path.{_≡_};
 ghost use Prim.Native.Nat.{_<_};
 ghost use lib.ListN.{length};
 ghost use Rattle.bits.specs.Rows.{number};
 ghost use Rattle.words.specs.Lists.{wordList};
+ghost use Rattle.field.specs.Coded.{coded};
 ghost use Rattle.field.specs.Field.{wordBits, fieldBits};
 ghost use Rattle.field.specs.Table.{rowOf};
 use crate::padding;
+use crate::table;
 use crate::table::Row;
+use refusals::Refusal;
 use words::word_list;
 
+// How many bytes a field has, and the number of its bits; or why there is none.
+pub enum Coded {
+    Field(usize, u64),
+    Refused(Refusal),
+}
+
+// Codes a payload, and stores nothing. Refused with 1.
+pub fn code(payload: &[u8]) -> Coded
+    ensures { λ r. ⌜ r ≡ coded (now (payload .entry)) ⌝ }
+{
+    let size = payload.len();
+    if 7 < size {
+        return Coded::Refused(Refusal::PayloadTooLong);
+    }
+    let row = table::row_of(size);
+    let number = field_number(payload, row);
+    Coded::Field(row.bytes, number)
+}
+
 // The number of a payload's field, its row being given.
-pub(crate) fn field_number(payload: &[u8], row: Row) -> u64
+fn field_number(payload: &[u8], row: Row) -> u64
     requires { ⌜ (length (now payload) < 8) × (row ≡ rowOf (length (now payload))) ⌝ }
     ensures { λ r. ⌜ r ≡ number 0 (fieldBits (now (payload .entry))) ⌝ }
 {

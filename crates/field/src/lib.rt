@@ -10,11 +10,12 @@ ghost use Rattle.field.specs.Decode.{decodeAnswer, payloadOf};
 
 mod bytes;
 mod decoding;
-mod encoding;
+pub mod encoding;
 mod padding;
 pub mod table;
 
 use decoding::Reading;
+use encoding::Coded;
 use refusals::Answer;
 use refusals::Refusal;
 
@@ -23,17 +24,16 @@ pub fn encode(payload: &[u8], field: &mut [u8]) -> Answer
     ensures answer { λ r. ⌜ r ≡ encodeAnswer (now (payload .entry)) (length (now (field .entry))) ⌝ }
     ensures memory { λ r. ⌜ now (field .exit) ≡ after r (fieldOf (now (payload .entry))) (now (field .entry)) ⌝ }
 {
-    let size = payload.len();
-    if 7 < size {
-        return Answer::Refused(Refusal::PayloadTooLong);
+    match encoding::code(payload) {
+        Coded::Field(n, number) => {
+            if field.len() < n {
+                return Answer::Refused(Refusal::RoomShort);
+            }
+            bytes::store(number, n, field);
+            Answer::Length(n)
+        }
+        Coded::Refused(refusal) => Answer::Refused(refusal),
     }
-    let row = table::row_of(size);
-    if field.len() < row.bytes {
-        return Answer::Refused(Refusal::RoomShort);
-    }
-    let number = encoding::field_number(payload, row);
-    bytes::store(number, row.bytes, field);
-    Answer::Length(row.bytes)
 }
 
 // Decodes a field: the length of its payload, which stands at the start of `payload`. Refused with 2 to 7.

@@ -1,0 +1,54 @@
+-- A payload coded into one number. Assumes nothing.
+--     coded-long       1, a payload of more than 7 bytes
+--     coded-short      a payload of at most 7 bytes: its field's bytes, and their number
+--     coded-refused, coded-field    what an answer tells of the payload
+use mathlib.Core.Path.{_≡_, refl}
+use mathlib.Core.Bool.{Bool, true, false, cond}
+use mathlib.Core.List.{List}
+use Prim.Native.Nat.{ℕ, _≤_, _<_}
+use native.Mathlib.Omega.{arith}
+use lib.Dec.{ltb}
+use lib.ListN.{length}
+use borrow.Author.Tests.{lt-ltb, le-ltb, ltb-true, ltb-false}
+use Rattle.bits.specs.Rows.{number}
+use Rattle.bits.specs.Packing.{unpacked}
+use Rattle.refusals.specs.declared.Refusal.{Refusal}
+use Rattle.refusals.specs.declared.Refusal.the-variants.{PayloadTooLong}
+use Rattle.field.specs.Field.{fieldOf}
+use Rattle.field.specs.Coded.{coded}
+use Rattle.field.specs.declared.encoding.Coded.the-variants.{Field, Refused}
+
+pub coded-long : (payload : List ℕ) → 7 < length payload → coded payload ≡ Refused PayloadTooLong
+unfolding coded
+coded-long payload h = simp (lt-ltb _ _ h)
+
+pub coded-short : (payload : List ℕ) → length payload ≤ 7
+    → coded payload ≡ Field (length (fieldOf payload)) (number 0 (unpacked 8 (fieldOf payload)))
+unfolding coded
+coded-short payload h = simp (le-ltb _ _ h)
+
+-- the bytes of a field, and their number
+pub record IsField (payload : List ℕ) (n v : ℕ) : Type 0 where
+  pub short : length payload ≤ 7
+  pub bytes : n ≡ length (fieldOf payload)
+  pub number-is : v ≡ number 0 (unpacked 8 (fieldOf payload))
+
+pub coded-field : (payload : List ℕ) (n v : ℕ) → coded payload ≡ Field n v → IsField payload n v
+unfolding coded
+coded-field payload n v e = go (ltb 7 (length payload)) refl e
+  where
+    go : (t : Bool) → ltb 7 (length payload) ≡ t
+        → cond t (Refused PayloadTooLong) (Field (length (fieldOf payload)) (number 0 (unpacked 8 (fieldOf payload)))) ≡ Field n v
+        → IsField payload n v
+    go true h e = let z : _≡_ {A = ℕ} 0 1 = cc in absurd (omega arith)
+    go false h e = record { short = omega (arith, ltb-false 7 (length payload) h); bytes = cc; number-is = cc }
+
+pub coded-refused : (payload : List ℕ) (refusal : Refusal) → coded payload ≡ Refused refusal → (7 < length payload) × (refusal ≡ PayloadTooLong)
+unfolding coded
+coded-refused payload refusal e = go (ltb 7 (length payload)) refl e
+  where
+    go : (t : Bool) → ltb 7 (length payload) ≡ t
+        → cond t (Refused PayloadTooLong) (Field (length (fieldOf payload)) (number 0 (unpacked 8 (fieldOf payload)))) ≡ Refused refusal
+        → (7 < length payload) × (refusal ≡ PayloadTooLong)
+    go true h e = (ltb-true 7 (length payload) h, cc)
+    go false h e = let z : _≡_ {A = ℕ} 0 1 = cc in absurd (omega arith)
