@@ -1,0 +1,34 @@
+-- The answers of asking for bounds, one law for each. Assumes nothing.
+--     bounds-identifier    8, an identifier above 2047
+--     bounds-long          1, a size above 7
+--     bounds-accepts       else the two bounds; bounds-found the same from what the code computes
+use mathlib.Core.Path.{_≡_, sym, ap, _∙_}
+use Prim.Native.Nat.{ℕ, _+_, _*_, _≤_, _<_}
+use native.Mathlib.Omega.{arith}
+use borrow.Author.Tests.{lt-ltb, le-ltb}
+use Rattle.refusals.specs.declared.Refusal.the-variants.{PayloadTooLong, Identifier}
+use Rattle.field.specs.Sizes.{fieldBytes}
+use Rattle.frame.specs.StuffBits.{headerStuffBits}
+use Rattle.frame.specs.Answers.{boundsAnswer}
+use Rattle.frame.specs.declared.Bounds.the-variants.{Between, Refused}
+
+pub bounds-identifier : (identifier size : ℕ) → 2047 < identifier → boundsAnswer identifier size ≡ Refused Identifier
+unfolding boundsAnswer
+bounds-identifier identifier size h = simp (lt-ltb _ _ h)
+
+pub bounds-long : (identifier size : ℕ) → identifier ≤ 2047 → 7 < size → boundsAnswer identifier size ≡ Refused PayloadTooLong
+unfolding boundsAnswer
+bounds-long identifier size h g = simp (le-ltb _ _ h, lt-ltb _ _ g)
+
+pub bounds-accepts : (identifier size : ℕ) → identifier ≤ 2047 → size ≤ 7 →
+    let n = fieldBytes size in
+    let h = headerStuffBits identifier n in
+    boundsAnswer identifier size ≡ Between (44 + 8 * n + h) (48 + 8 * n + h)
+unfolding boundsAnswer
+bounds-accepts identifier size h g = simp (le-ltb _ _ h, le-ltb _ _ g)
+
+pub bounds-found : (identifier size n h : ℕ) → identifier ≤ 2047 → size ≤ 7 → n ≡ fieldBytes size → h ≡ headerStuffBits identifier n
+    → Between (44 + 8 * n + h) (44 + 8 * n + h + 4) ≡ boundsAnswer identifier size
+bounds-found identifier size n h i s en eh =
+    let most : 44 + 8 * n + h + 4 ≡ 48 + 8 * n + h = omega arith in
+    ap (Between (44 + 8 * n + h)) most ∙ rw (eh, en) (sym (bounds-accepts identifier size i s))

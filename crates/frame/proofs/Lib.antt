@@ -1,0 +1,14 @@
+pub mod HeaderBits
+pub mod CrcBits
+pub mod NextBit
+pub mod BoundsAnswers
+pub mod Division
+pub mod CrcExamples
+pub mod Written
+pub mod LineParts
+pub mod Demand3
+pub mod FrameAnswers
+pub mod PayloadLine
+pub mod HeaderStuff
+pub mod Reported
+pub mod Examples

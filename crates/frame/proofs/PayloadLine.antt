@@ -1,0 +1,65 @@
+-- The line of a payload's frame. Assumes nothing.
+--     frame-is      said anew, from the sizes, the field's bits and the CRC's number: fourteen CRC bits are stuffed, the fifteenth and
+--                   the ten bits 1 behind it are not
+--     line-below    each of its bytes is 0 or 1
+--     coded-few     a coded field has at most eight bytes
+--     coded-line    its number behind a header's bits gives that line
+use mathlib.Core.Path.{_≡_, sym, ap, ap₂, _∙_, subst}
+use mathlib.Core.List.{List, _∷_, _++_}
+use Prim.Native.Nat.{ℕ, _*_, _/_, _%_, _≤_}
+use lib.ListN.{length, take, drop, replicate}
+use Rattle.bits.specs.Below.{Below}
+use Rattle.bits.specs.Rows.{bits}
+use Rattle.bits.specs.Packing.{unpacked}
+use Rattle.bits.specs.Stuffing.{nothingSent, stuffed}
+use Rattle.bits.proofs.Below.{below-append, below-take, below-drop}
+use Rattle.bits.proofs.Rows.{bits-below}
+use Rattle.bits.proofs.Packing.{unpacked-below, bits-unpacked}
+use Rattle.bits.proofs.Stuffing.{stuffed-below}
+use Rattle.field.specs.Sizes.{fieldBytes}
+use Rattle.field.specs.Field.{fieldBits, fieldOf}
+use Rattle.field.proofs.Coded.{IsField}
+use Rattle.field.proofs.FieldBits.{field-length, bits-of-field}
+use Rattle.field.proofs.Sizes.{fieldBytes-few}
+use Rattle.frame.specs.Header.{header}
+use Rattle.frame.specs.Crc.{crc}
+use Rattle.frame.specs.Line.{crcBits, stuffedRow, ending, lineOf, frameLine}
+use Rattle.frame.specs.Answers.{payloadLine}
+use Rattle.frame.proofs.HeaderBits.{header-below}
+use Rattle.frame.proofs.CrcBits.{crc-stuffed, crc-last}
+
+pub coded-few : (payload : List ℕ) (n v : ℕ) → IsField payload n v → n ≤ 8
+coded-few payload n v coded =
+    subst (λ (m : ℕ). m ≤ 8) (sym (coded .bytes ∙ field-length payload)) (fieldBytes-few (length payload) (coded .short))
+
+pub coded-line : (identifier : ℕ) (payload headerBits : List ℕ) (n v : ℕ) → IsField payload n v → headerBits ≡ header identifier n
+    → lineOf headerBits (bits (8 * n) v) ≡ payloadLine identifier payload
+unfolding frameLine
+coded-line identifier payload headerBits n v coded e =
+    ap₂ lineOf (e ∙ ap (header identifier) (coded .bytes)) (bits-unpacked 8 n v (fieldOf payload) (coded .bytes) (coded .number-is))
+
+pub frame-is : (identifier : ℕ) (payload : List ℕ) → length payload ≤ 7 →
+    let headerBits = header identifier (fieldBytes (length payload)) in
+    let check = crc (headerBits ++ fieldBits payload) in
+    payloadLine identifier payload
+    ≡ stuffed nothingSent (headerBits ++ (fieldBits payload ++ bits 14 (check / 2))) ++ ((check % 2) ∷ replicate 10 1)
+unfolding frameLine lineOf stuffedRow crcBits
+frame-is identifier payload short =
+    let headerBits = header identifier (fieldBytes (length payload)) in
+    let check = crc (headerBits ++ fieldBits payload) in
+    rw (field-length payload, bits-of-field payload short)
+    (ap₂ (λ (l m : List ℕ). stuffed nothingSent (headerBits ++ (fieldBits payload ++ l)) ++ (m ++ ending 1))
+    (sym (crc-stuffed check)) (crc-last check))
+
+pub line-below : (identifier : ℕ) (payload : List ℕ) → Below 2 (payloadLine identifier payload)
+unfolding bits frameLine lineOf stuffedRow crcBits
+line-below identifier payload =
+    let n = length (fieldOf payload) in
+    let headerBits = header identifier n in
+    let dataBits = unpacked 8 (fieldOf payload) in
+    let check = bits 15 (crc (headerBits ++ dataBits)) in
+    below-append 2 (stuffed nothingSent (headerBits ++ (dataBits ++ take 14 check))) (drop 14 check ++ ending 1)
+    (stuffed-below nothingSent _
+    (below-append 2 headerBits _ (header-below identifier n)
+    (below-append 2 dataBits _ (unpacked-below 8 (fieldOf payload)) (below-take 2 14 check (bits-below 15 _)))))
+    (below-append 2 (drop 14 check) (ending 1) (below-drop 2 14 check (bits-below 15 _)) (bits-below 10 1023))

@@ -1,0 +1,76 @@
+-- `frame::framing::frame` meets its contract: what the payload is coded into decides the answer. Assumes nothing.
+use mathlib.Core.Path.{sym, ap, _∙_}
+use Prim.Native.Nat.{_≤_}
+use native.Mathlib.Omega.{arith}
+use borrow.Author.Needs.{needs}
+use Rattle.refusals.specs.declared.Answer.the-variants.{Refused}
+use Rattle.field.proofs.Coded.{IsField, coded-field, coded-refused}
+use Rattle.bits.proofs.Below.{below-at}
+use Rattle.frame.proofs.Demand3.{room-enough}
+use Rattle.frame.proofs.FrameAnswers.{length-identifier, length-long, make-identifier, make-long}
+use Rattle.frame.proofs.PayloadLine.{coded-few, coded-line}
+use Rattle.frame.proofs.framing.frame.Statement.{statement}
+use Rattle.frame.proofs.framing.frame.Tie as tie
+
+returns : tie.Need-returns
+returns c = (length-identifier _ _ (c .if1 .taken), λ room. make-identifier _ _ room (c .if1 .taken))
+
+code-requires : tie.Need-code-requires
+code-requires c κs = search needs
+
+enum-known-n : tie.Need-enum-known-n
+enum-known-n c = search needs
+
+-- what the payload was coded into
+found : (c : tie.After-n) → IsField (c .before .before .before .before .before .args .payload .now) (c .n .given .0 .0) (c .n .given .0 .1 .0)
+found c = coded-field _ _ _ (sym (c .before .before .code .ensures) ∙ c .n .given .1)
+
+few : (c : tie.After-n) → c .n .given .0 .0 ≤ 8
+few c = coded-few _ _ _ (found c)
+
+mul-t11 : tie.Need-mul-t11
+mul-t11 c = omega (arith, few (c .before))
+
+of-requires : tie.Need-of-requires
+of-requires c κs = (omega arith, omega (arith, few (c .before)))
+
+of-requires-2 : tie.Need-of-requires-2
+of-requires-2 c κs = (omega arith, omega (arith, few (c .before .before)))
+
+enum-known-refusal : tie.Need-enum-known-refusal
+enum-known-refusal c = search needs
+
+returns-2 : tie.Need-returns-2
+returns-2 c =
+    let coded = c .before .before .before in
+    let payload = coded .before .before .before .before .before .args .payload .now in
+    let bytes = below-at 256 payload (λ i. omega (arith, coded .before .before .before .before .shared-slice-known .given i)) in
+    let line = c .of2 .ensures .0 ∙ coded-line _ payload _ _ _ (found coded) (c .before .of .ensures .0) in
+    record {
+      allowed = coded .before .before .before .if1 .left;
+      short = found coded .short;
+      line-is = line;
+      enough = rw line (room-enough _ payload bytes (found coded .short));
+      fit = c .of2 .ensures .1;
+    }
+
+returns-3 : tie.Need-returns-3
+returns-3 c =
+    let long = coded-refused _ _ (sym (c .before .before .before .code .ensures) ∙ c .before .refusal .given .1) in
+    let allowed = c .before .before .before .before .if1 .left in
+    let same = ap Refused (sym (long .1)) in
+    (length-long _ _ allowed (long .0) ∙ same, λ room. make-long _ _ room allowed (long .0) ∙ same)
+
+pub frame-spec : {M : Type 1} → statement M
+frame-spec =
+    tie.close
+    (tie.spec
+    returns
+    code-requires
+    enum-known-n
+    mul-t11
+    of-requires
+    of-requires-2
+    enum-known-refusal
+    returns-2
+    returns-3)

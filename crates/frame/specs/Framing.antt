@@ -1,0 +1,25 @@
+-- What setting up the parts of a payload's frame gives. Assumes nothing.
+use Prim.Native.Nat.{ℕ, _≤_}
+use mathlib.Core.Path.{_≡_}
+use mathlib.Core.List.{List}
+use lib.ListN.{length}
+use Rattle.refusals.specs.declared.Answer.the-variants.{Refused}
+use Rattle.frame.specs.Answers.{payloadLine, lengthAnswer, makeAnswer}
+use Rattle.frame.specs.Parts.{FitAll, lineIn}
+use Rattle.frame.specs.declared.parts.Parts.{Parts}
+use Rattle.frame.specs.declared.framing.Framed.{Framed}
+use Rattle.frame.specs.declared.framing.Framed.the-variants as framed
+
+-- the parts of the payload's line, for which 116 bits are room enough
+pub record IsFrame (p : Parts) (identifier : ℕ) (payload : List ℕ) : Type 0 where
+  pub allowed : identifier ≤ 2047
+  pub short : length payload ≤ 7
+  pub line-is : lineIn p ≡ payloadLine identifier payload
+  pub enough : length (lineIn p) ≤ 116
+  pub fit : FitAll p
+
+-- these, or a refusal of the length and of the frame, whatever the room
+abbrev pub Gives : Framed → ℕ → List ℕ → Type 0
+Gives (framed.Frame p) identifier payload = IsFrame p identifier payload
+Gives (framed.Refused refusal) identifier payload =
+    (lengthAnswer identifier payload ≡ Refused refusal) × ((room : ℕ) → makeAnswer identifier payload room ≡ Refused refusal)

@@ -1,0 +1,34 @@
+-- The line of a frame, over any header and any data field. Assumes nothing.
+use Prim.Native.Nat.{ℕ}
+use mathlib.Core.List.{List, _∷_, _++_}
+use lib.ListN.{length, take, drop, replicate}
+use Rattle.bits.specs.Rows.{bits}
+use Rattle.bits.specs.Packing.{unpacked}
+use Rattle.bits.specs.Stuffing.{nothingSent, stuffed}
+use Rattle.frame.specs.Header.{header}
+use Rattle.frame.specs.Crc.{crc}
+
+-- the CRC bits, of header and data bits
+unfoldable pub crcBits : List ℕ → List ℕ → List ℕ
+crcBits headerBits dataBits = bits 15 (crc (headerBits ++ dataBits))
+
+-- how many of them a stuff bit may follow: nothing is inserted after the last
+abbrev pub stuffedCrcBits : ℕ
+stuffedCrcBits = 14
+
+-- the bits that a stuff bit may follow, from the start of frame on
+unfoldable pub stuffedRow : List ℕ → List ℕ → List ℕ
+stuffedRow headerBits dataBits = headerBits ++ (dataBits ++ take stuffedCrcBits (crcBits headerBits dataBits))
+
+-- CRC delimiter 1, ACK slot, ACK delimiter 1, seven end bits 1
+abbrev pub ending : ℕ → List ℕ
+ending ack = 1 ∷ ack ∷ 1 ∷ replicate 7 1
+
+-- the stuffed bits, then those that are never stuffed; the maker writes 1 in the ACK slot
+unfoldable pub lineOf : List ℕ → List ℕ → List ℕ
+lineOf headerBits dataBits =
+    stuffed nothingSent (stuffedRow headerBits dataBits) ++ (drop stuffedCrcBits (crcBits headerBits dataBits) ++ ending 1)
+
+-- the line of the frame of an identifier and a data field: its bytes, how many they are being the DLC
+unfoldable pub frameLine : ℕ → List ℕ → List ℕ
+frameLine identifier field = lineOf (header identifier (length field)) (unpacked 8 field)

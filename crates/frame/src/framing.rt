@@ -1,0 +1,34 @@
+// The frame of an identifier and a payload in its parts.
+ghost use Rattle.frame.specs.Framing.{Gives};
+use crate::header;
+use crate::parts;
+use crate::parts::Part;
+use crate::parts::Parts;
+use field::encoding;
+use field::encoding::Coded;
+use refusals::Refusal;
+
+// The parts, or why there are none.
+pub(crate) enum Framed {
+    Frame(Parts),
+    Refused(Refusal),
+}
+
+// Codes the payload and sets the header before it. Refused with 8 or 1.
+pub(crate) fn frame(identifier: u32, payload: &[u8]) -> Framed
+    ensures { λ r. ⌜ Gives r identifier (now (payload .entry)) ⌝ }
+{
+    if 2047 < identifier {
+        return Framed::Refused(Refusal::Identifier);
+    }
+    match encoding::code(payload) {
+        Coded::Field(n, number) => {
+            let field = Part {
+                number,
+                count: 8 * n,
+            };
+            Framed::Frame(parts::of(header::of(identifier, n), field))
+        }
+        Coded::Refused(refusal) => Framed::Refused(refusal),
+    }
+}

@@ -1,0 +1,71 @@
+// The frame of an identifier and a payload: a CAN base data frame on the wire, its length and its bounds.
+//
+// On success only the bytes of the result are written; after a refusal the lent buffer holds its old bytes.
+ghost use mathlib.Core.Path.{_≡_};
+ghost use lib.ListN.{length};
+ghost use Rattle.refusals.specs.After.{after};
+ghost use Rattle.frame.specs.Answers.{payloadLine, makeAnswer, lengthAnswer, boundsAnswer};
+
+mod crc;
+mod ending;
+mod framing;
+mod header;
+mod length;
+mod parts;
+mod stuffing;
+mod writing;
+
+use field::table;
+use framing::Framed;
+use refusals::Answer;
+use refusals::Refusal;
+
+// The least and the most bits that a frame can have, or a refusal.
+pub enum Bounds {
+    Between(usize, usize),
+    Refused(Refusal),
+}
+
+// Makes the frame of an identifier and a payload: the length of its line, which stands at the start of `line`, a byte 0 or 1 for each
+// bit. Refused with 8, 1 or 2; room for 116 bits is asked for whatever the frame.
+pub fn make_frame(identifier: u32, payload: &[u8], line: &mut [u8]) -> Answer
+    ensures answer { λ r. ⌜ r ≡ makeAnswer identifier (now (payload .entry)) (length (now (line .entry))) ⌝ }
+    ensures memory { λ r. ⌜ now (line .exit) ≡ after r (payloadLine identifier (now (payload .entry))) (now (line .entry)) ⌝ }
+{
+    match framing::frame(identifier, payload) {
+        Framed::Frame(parts) => {
+            if line.len() < 116 {
+                return Answer::Refused(Refusal::RoomShort);
+            }
+            Answer::Length(writing::whole(parts, line))
+        }
+        Framed::Refused(refusal) => Answer::Refused(refusal),
+    }
+}
+
+// The length of that line; none is built. Refused with 8 or 1.
+pub fn frame_length(identifier: u32, payload: &[u8]) -> Answer
+    ensures { λ r. ⌜ r ≡ lengthAnswer identifier (now (payload .entry)) ⌝ }
+{
+    match framing::frame(identifier, payload) {
+        Framed::Frame(parts) => Answer::Length(length::of(parts)),
+        Framed::Refused(refusal) => Answer::Refused(refusal),
+    }
+}
+
+// The bounds of that length over all payloads of a size. Refused with 8 or 1.
+pub fn frame_bounds(identifier: u32, size: usize) -> Bounds
+    ensures { λ r. ⌜ r ≡ boundsAnswer identifier size ⌝ }
+{
+    if 2047 < identifier {
+        return Bounds::Refused(Refusal::Identifier);
+    }
+    if 7 < size {
+        return Bounds::Refused(Refusal::PayloadTooLong);
+    }
+    let rows = table::rows();
+    let n = rows[size].bytes;
+    let head = stuffing::count(stuffing::NOTHING_SENT, header::of(identifier, n));
+    let least = 44 + 8 * n + head.drawn;
+    Bounds::Between(least, least + 4)
+}
