@@ -2,14 +2,19 @@
 --     bounds-identifier    8, an identifier above 2047
 --     bounds-long          1, a size above 7
 --     bounds-accepts       else the two bounds; bounds-found the same from what the code computes
-use mathlib.Core.Path.{_≡_, sym, ap, _∙_}
+--     bounds-only          the document's numbers tell which bounds they are
+use mathlib.Core.Path.{_≡_, sym, ap, ap₂, _∙_}
+use mathlib.Core.List.{List}
 use Prim.Native.Nat.{ℕ, _+_, _*_, _≤_, _<_}
 use native.Mathlib.Omega.{arith}
 use borrow.Author.Tests.{lt-ltb, le-ltb}
+use lib.ListN.{getD}
 use Rattle.refusals.specs.declared.Refusal.the-variants.{PayloadTooLong, Identifier}
+use Rattle.refusals.proofs.Table.{refusal-only, number-some}
 use Rattle.field.specs.Sizes.{fieldBytes}
 use Rattle.frame.specs.StuffBits.{headerStuffBits}
-use Rattle.frame.specs.Answers.{boundsAnswer}
+use Rattle.frame.specs.Answers.{boundsAnswer, boundsNumbers}
+use Rattle.frame.specs.declared.Bounds.{Bounds}
 use Rattle.frame.specs.declared.Bounds.the-variants.{Between, Refused}
 
 pub bounds-identifier : (identifier size : ℕ) → 2047 < identifier → boundsAnswer identifier size ≡ Refused Identifier
@@ -32,3 +37,10 @@ pub bounds-found : (identifier size n h : ℕ) → identifier ≤ 2047 → size 
 bounds-found identifier size n h i s en eh =
     let most : 44 + 8 * n + h + 4 ≡ 48 + 8 * n + h = omega arith in
     ap (Between (44 + 8 * n + h)) most ∙ rw (eh, en) (sym (bounds-accepts identifier size i s))
+
+pub bounds-only : (a b : Bounds) → boundsNumbers a ≡ boundsNumbers b → a ≡ b
+bounds-only (Between l m) (Between j k) e = ap₂ Between (ap (λ (n : List ℕ). getD n 1 0) e) (ap (λ (n : List ℕ). getD n 2 0) e)
+bounds-only (Between l m) (Refused r) e = absurd (number-some r (ap (λ (n : List ℕ). getD n 0 0) e))
+bounds-only (Refused r) (Between j k) e = absurd (number-some r (sym (ap (λ (n : List ℕ). getD n 0 0) e)))
+bounds-only (Refused r) (Refused q) e =
+    ap Refused (refusal-only r q (ap (λ (n : List ℕ). getD n 0 0) e) (ap (λ (n : List ℕ). getD n 1 0) e))

@@ -1,7 +1,7 @@
 -- The CRC's bits, and where stuffing ends among them. Assumes nothing.
 --     crc-stuffed    those that a stuff bit may follow
 --     crc-last       the one that none may follow
---     crc-plain      what follows the first, to the end of the frame
+--     crc-plain      that one and the ten bits behind it, from the number that the code puts together
 use mathlib.Core.Path.{_≡_, sym, ap, _∙_}
 use mathlib.Core.List.{List, [], _∷_, _++_}
 use Prim.Native.Nat.{ℕ, _+_, _*_, _/_, _%_, _^_}

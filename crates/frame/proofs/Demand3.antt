@@ -5,10 +5,11 @@
 --     header-alone      the stuff bits that follow header bits on the whole line hang on identifier and DLC alone: they are h
 --     data-none         no stuff bit follows a bit of the data field
 --     frame-between     the line has 44 + 8n + h to 48 + 8n + h bits
---     room-enough       and never more than 116
+--     frame-at-most     and never more than 115
+--     room-enough       so that 116 are always enough
 use mathlib.Core.Path.{_≡_, ap, ap₂, _∙_}
 use mathlib.Core.List.{List, [], _∷_, _++_}
-use Prim.Native.Nat.{ℕ, _+_, _*_, _/_, _%_, _^_, _≤_}
+use Prim.Native.Nat.{ℕ, zero, suc, _+_, _*_, _/_, _%_, _^_, _≤_}
 use native.Mathlib.Omega.{arith}
 use lib.ListN.{length, take, length-take}
 use Rattle.bits.specs.Below.{Below}
@@ -19,7 +20,6 @@ use Rattle.bits.proofs.Packing.{unpacked-length}
 use Rattle.bits.proofs.Stuffing.{stuff-weight, runAfterRow-append}
 use Rattle.field.specs.Sizes.{fieldBytes}
 use Rattle.field.specs.Field.{fieldOf}
-use Rattle.field.proofs.Sizes.{fieldBytes-few}
 use Rattle.field.proofs.FieldBits.{field-length, bits-of-field}
 use Rattle.field.proofs.FieldCalm.{quiet-behind-dlc}
 use Rattle.frame.specs.Header.{header}
@@ -27,7 +27,7 @@ use Rattle.frame.specs.Line.{crcBits, stuffedCrcBits, lineOf, frameLine}
 use Rattle.frame.specs.StuffBits.{afterHeader, afterData, afterCrc, headerStuffBits}
 use Rattle.frame.specs.Answers.{payloadLine}
 use Rattle.frame.proofs.HeaderBits.{header-length}
-use Rattle.frame.proofs.HeaderStuff.{header-four}
+use Rattle.frame.proofs.HeaderStuff.{header-four, header-three}
 use Rattle.frame.proofs.LineParts.{headerRun, dataRun, crcFront, line-length, after-header, after-data, after-crc}
 
 module _ (headerBits dataBits : List ℕ) where
@@ -102,7 +102,13 @@ module _ (identifier : ℕ) (payload : List ℕ) (bytes : Below 256 payload) (sh
       let front = header-length identifier (length field) in
       (omega arith, omega arith)
 
+  pub frame-at-most : length (payloadLine identifier payload) ≤ 115
+  frame-at-most = go (length payload) short (frame-between .1)
+    where
+      go : (size : ℕ) → size ≤ 7 → length (payloadLine identifier payload) ≤ 48 + 8 * fieldBytes size + headerStuffBits identifier (fieldBytes size)
+          → length (payloadLine identifier payload) ≤ 115
+      go zero few most = omega (arith, header-four identifier 0)
+      go (suc size) few most = omega (arith, header-three identifier (suc (suc size)) (omega arith) (omega arith))
+
   pub room-enough : length (payloadLine identifier payload) ≤ 116
-  room-enough =
-      let n = fieldBytes (length payload) in
-      omega (arith, frame-between .1, header-four identifier n, fieldBytes-few (length payload) short)
+  room-enough = omega (arith, frame-at-most)

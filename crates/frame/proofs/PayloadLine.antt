@@ -1,11 +1,12 @@
 -- The line of a payload's frame. Assumes nothing.
 --     frame-is      said anew, from the sizes, the field's bits and the CRC's number: fourteen CRC bits are stuffed, the fifteenth and
 --                   the ten bits 1 behind it are not
+--     ack-in-place  where the ACK slot stands among these
 --     line-below    each of its bytes is 0 or 1
 --     coded-few     a coded field has at most eight bytes
 --     coded-line    its number behind a header's bits gives that line
-use mathlib.Core.Path.{_≡_, sym, ap, ap₂, _∙_, subst}
-use mathlib.Core.List.{List, _∷_, _++_}
+use mathlib.Core.Path.{_≡_, refl, sym, ap, ap₂, _∙_, subst}
+use mathlib.Core.List.{List, [], _∷_, _++_}
 use Prim.Native.Nat.{ℕ, _*_, _/_, _%_, _≤_}
 use lib.ListN.{length, take, drop, replicate}
 use Rattle.bits.specs.Below.{Below}
@@ -50,6 +51,9 @@ frame-is identifier payload short =
     rw (field-length payload, bits-of-field payload short)
     (ap₂ (λ (l m : List ℕ). stuffed nothingSent (headerBits ++ (fieldBits payload ++ l)) ++ (m ++ ending 1))
     (sym (crc-stuffed check)) (crc-last check))
+
+pub ack-in-place : (ack : ℕ) → (take 1 (ending ack) ≡ 1 ∷ []) × (take 1 (drop 1 (ending ack)) ≡ ack ∷ []) × (drop 2 (ending ack) ≡ replicate 8 1)
+ack-in-place ack = (refl, refl, refl)
 
 pub line-below : (identifier : ℕ) (payload : List ℕ) → Below 2 (payloadLine identifier payload)
 unfolding bits frameLine lineOf stuffedRow crcBits

@@ -1,7 +1,7 @@
 -- What is reported is what is on the wire. Assumes nothing.
 --     length-accepted, make-accepted, bounds-accepted    what an answer that is no refusal tells
 --     length-is-made    the reported length is that of the line that is made
---     line-is-made      that line stands at the start of the buffer, and is as long as the answer says
+--     line-is-made      that line is as long as the answer says and stands at the start of the buffer
 --     bounds-hold       a frame of the size has at least and at most the bits that the bounds say
 use mathlib.Core.Path.{_≡_, refl, sym, ap, _∙_}
 use mathlib.Core.Bool.{Bool, true, false, cond}
@@ -63,12 +63,16 @@ module _ (identifier : ℕ) (payload : List ℕ) where
   length-is-made room k m reported made = length-accepted k reported .length-is ∙ sym (make-accepted room m made .0 .length-is)
 
   pub line-is-made : (old : List ℕ) (m : ℕ) → makeAnswer identifier payload (length old) ≡ Length m
-      → take m (after (makeAnswer identifier payload (length old)) (payloadLine identifier payload) old) ≡ payloadLine identifier payload
+      → (m ≡ length (payloadLine identifier payload))
+      × (take m (after (makeAnswer identifier payload (length old)) (payloadLine identifier payload) old) ≡ payloadLine identifier payload)
   line-is-made old m made =
       let line = payloadLine identifier payload in
-      ap (λ (a : Answer). take m (after a line old)) made
-      ∙ ap (λ (n : ℕ). take n (after (Length m) line old)) (make-accepted (length old) m made .0 .length-is)
-      ∙ accepted-result m line old
+      let long = make-accepted (length old) m made .0 .length-is in (
+        long,
+        ap (λ (a : Answer). take m (after a line old)) made
+            ∙ ap (λ (n : ℕ). take n (after (Length m) line old)) long
+            ∙ accepted-result m line old,
+      )
 
 -- the two bounds, where there is no refusal
 pub bounds-accepted : (identifier size least most : ℕ) → boundsAnswer identifier size ≡ bounds.Between least most →

@@ -1,12 +1,13 @@
 -- The answers of making a frame, of its length and of its bounds. Assumes nothing.
 use Prim.Native.Nat.{ℕ, _+_, _*_}
 use mathlib.Core.Bool.{cond}
-use mathlib.Core.List.{List}
+use mathlib.Core.List.{List, [], _∷_}
 use lib.Dec.{ltb}
 use lib.ListN.{length}
 use Rattle.refusals.specs.declared.Answer.{Answer}
 use Rattle.refusals.specs.declared.Answer.the-variants.{Length, Refused}
 use Rattle.refusals.specs.declared.Refusal.the-variants.{PayloadTooLong, RoomShort, Identifier}
+use Rattle.refusals.specs.Table.{numberOf, placeOf}
 use Rattle.field.specs.Sizes.{fieldBytes}
 use Rattle.field.specs.Field.{fieldOf}
 use Rattle.frame.specs.Line.{frameLine}
@@ -25,7 +26,7 @@ lengthAnswer identifier payload =
     (cond (ltb 7 (length payload)) (Refused PayloadTooLong)
     (Length (length (payloadLine identifier payload))))
 
--- 8, 1, then 2: room for 116 bits, whatever the frame
+-- 8, 1, then 2 where the room is below 116, whatever the frame; else how many bits are on the wire
 unfoldable pub makeAnswer : ℕ → List ℕ → ℕ → Answer
 makeAnswer identifier payload room =
     cond (ltb 2047 identifier) (Refused Identifier)
@@ -41,3 +42,8 @@ boundsAnswer identifier size =
     cond (ltb 2047 identifier) (bounds.Refused Identifier)
     (cond (ltb 7 size) (bounds.Refused PayloadTooLong)
     (bounds.Between (44 + 8 * n + h) (48 + 8 * n + h)))
+
+-- bounds in the document's numbers: 0, which means no refusal, and both of them; or the refusal's number and its place
+abbrev pub boundsNumbers : Bounds → List ℕ
+boundsNumbers (bounds.Between least most) = 0 ∷ least ∷ most ∷ []
+boundsNumbers (bounds.Refused refusal) = numberOf refusal ∷ placeOf refusal ∷ []

@@ -9,7 +9,7 @@ unfoldable pub xor : ℕ → ℕ → ℕ → ℕ
 xor zero a b = 0
 xor (suc k) a b = xor k (a / 2) (b / 2) * 2 + (a % 2 + b % 2) % 2
 
--- a step of the long division: a bit is brought down to the register, and the divisor is taken off where its top term is there
+-- a step of the long division: a bit is brought down into the register; where that gives an x^15, the divisor is taken off
 unfoldable pub divide : ℕ → ℕ → ℕ
 divide register bit =
     let next = register * 2 + bit in

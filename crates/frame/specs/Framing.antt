@@ -1,4 +1,4 @@
--- What setting up the parts of a payload's frame gives. Assumes nothing.
+-- What setting up the parts of a payload's frame gives; no public contract cites it. Assumes nothing.
 use Prim.Native.Nat.{ℕ, _≤_}
 use mathlib.Core.Path.{_≡_}
 use mathlib.Core.List.{List}

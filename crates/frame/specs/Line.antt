@@ -29,6 +29,6 @@ unfoldable pub lineOf : List ℕ → List ℕ → List ℕ
 lineOf headerBits dataBits =
     stuffed nothingSent (stuffedRow headerBits dataBits) ++ (drop stuffedCrcBits (crcBits headerBits dataBits) ++ ending 1)
 
--- the line of the frame of an identifier and a data field: its bytes, how many they are being the DLC
+-- the line of the frame of an identifier and the bytes of a data field; the DLC is how many these are
 unfoldable pub frameLine : ℕ → List ℕ → List ℕ
 frameLine identifier field = lineOf (header identifier (length field)) (unpacked 8 field)

@@ -1,4 +1,4 @@
--- A frame in its parts, as the code has them. Assumes nothing.
+-- A frame in its parts, as the code has them; no public contract cites it. Assumes nothing.
 use Prim.Native.Nat.{ℕ, _≤_}
 use mathlib.Core.List.{List, _++_}
 use Rattle.bits.specs.Rows.{bits}

@@ -1,4 +1,4 @@
--- What writing bits into a line leaves. Assumes nothing.
+-- What writing bits into a line leaves; no public contract cites it. Assumes nothing.
 use Prim.Native.Nat.{ℕ, _+_, _≤_}
 use mathlib.Core.Path.{_≡_}
 use mathlib.Core.List.{List}

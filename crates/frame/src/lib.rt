@@ -20,7 +20,7 @@ use framing::Framed;
 use refusals::Answer;
 use refusals::Refusal;
 
-// The least and the most bits that a frame can have, or a refusal.
+// The two bounds of a frame's length, the lower first, or a refusal.
 pub enum Bounds {
     Between(usize, usize),
     Refused(Refusal),
@@ -53,7 +53,7 @@ pub fn frame_length(identifier: u32, payload: &[u8]) -> Answer
     }
 }
 
-// The bounds of that length over all payloads of a size. Refused with 8 or 1.
+// Bounds between which the length of every frame of a size lies; they need not be reached. Refused with 8 or 1.
 pub fn frame_bounds(identifier: u32, size: usize) -> Bounds
     ensures { λ r. ⌜ r ≡ boundsAnswer identifier size ⌝ }
 {

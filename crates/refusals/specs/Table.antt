@@ -1,5 +1,8 @@
--- Document 01's table of refusals: the number and the place of each. Assumes nothing.
+-- Document 01's table of refusals: the number and the place of each; an answer in these numbers. Assumes nothing.
 use Prim.Native.Nat.{ℕ}
+use mathlib.Core.List.{List, [], _∷_}
+use Rattle.refusals.specs.declared.Answer.{Answer}
+use Rattle.refusals.specs.declared.Answer.the-variants.{Length, Refused}
 use Rattle.refusals.specs.declared.Refusal.{Refusal}
 use Rattle.refusals.specs.declared.Refusal.the-variants.{PayloadTooLong, RoomShort, FieldLength, BreakBit, Escape, NoWord, Padding, Identifier, LineByte, StuffBit, LineLength, Crc, FixedBit, Record}
 
@@ -36,3 +39,8 @@ placeOf (LineLength bit) = bit
 placeOf (Crc bit) = bit
 placeOf (FixedBit bit) = bit
 placeOf (Record offset) = offset
+
+-- an answer in the document's numbers: 0, which means none, and the length; or the refusal's number and its place
+abbrev pub answerNumbers : Answer → List ℕ
+answerNumbers (Length n) = 0 ∷ n ∷ []
+answerNumbers (Refused refusal) = numberOf refusal ∷ placeOf refusal ∷ []
