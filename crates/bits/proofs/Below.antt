@@ -1,6 +1,6 @@
 -- The laws of lists of numbers below a bound. Assumes nothing.
 --     below-append, below-take, below-drop
---     below-at    each number of the list is below the bound
+--     below-at    a list of which each number is below the bound
 use mathlib.Core.List.{List, [], _∷_, _++_}
 use Prim.Native.Nat.{ℕ, zero, suc, _<_}
 use lib.ListN.{getD, take, drop}

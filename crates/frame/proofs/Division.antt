@@ -1,6 +1,6 @@
 -- The laws of the long division. Assumes nothing.
 --     xor-is              the machine's exclusive or is the bit by bit one
---     xor-below, divide-below, remainder-below, crc-below    a result has k bits, or the 15 of the register
+--     xor-below, divide-below    a result has k bits, or the 15 of the register
 --     divide-short        while the register's top bit is 0 nothing is taken off
 --     divide-top          where it is 1 the divisor is taken off, once
 --     remainder-append    a row behind a row
@@ -46,15 +46,6 @@ xor-below (suc k) a b = rw pow-suc (omega (arith, xor-below k (a / 2) (b / 2)))
 pub divide-below : (register bit : ℕ) → divide register bit < 2 ^ 15
 unfolding divide
 divide-below register bit = xor-below 15 _ _
-
-pub remainder-below : (register : ℕ) (l : List ℕ) → register < 2 ^ 15 → remainder register l < 2 ^ 15
-unfolding remainder
-remainder-below register [] h = h
-remainder-below register (b ∷ l) h = remainder-below (divide register b) l (divide-below register b)
-
-pub crc-below : (l : List ℕ) → crc l < 2 ^ 15
-unfolding crc
-crc-below l = remainder-below 0 _ (lit< tt)
 
 pub divide-short : (register bit : ℕ) → register < 2 ^ 14 → bit < 2 → divide register bit ≡ register * 2 + bit
 unfolding divide

@@ -1,5 +1,5 @@
 -- The parts of a line, over any header and any data field. Assumes nothing.
---     stuffed-three, stuffCount-three    three rows one behind the other, from the start of frame: what is sent, and the stuff bits
+--     stuffCount-three    the stuff bits of three rows one behind the other, from the start of frame
 --     line-length     a line's bits are those of its parts and the stuff bits
 --     after-header, after-data, after-crc    the stuff bits that follow bits of a part, by the part alone and the run before it
 --     parts-line      the line that the code's parts make is the line of their header and data field
@@ -12,9 +12,9 @@ use lib.ListN.{length, take, drop, length-append, length-take, length-drop}
 use lib.Seq.{take-at, drop-at, take-all}
 use Rattle.bits.specs.declared.Run.{Run}
 use Rattle.bits.specs.Rows.{bits}
-use Rattle.bits.specs.Stuffing.{nothingSent, stuffed, stuffCount, runAfterRow}
+use Rattle.bits.specs.Stuffing.{nothingSent, stuffCount, runAfterRow}
 use Rattle.bits.proofs.Rows.{bits-length}
-use Rattle.bits.proofs.Stuffing.{runAfterRow-append, stuffCount-append, stuffed-append, stuffed-length}
+use Rattle.bits.proofs.Stuffing.{runAfterRow-append, stuffCount-append, stuffed-length}
 use Rattle.frame.specs.Crc.{crc}
 use Rattle.frame.specs.Line.{crcBits, stuffedCrcBits, stuffedRow, ending, lineOf}
 use Rattle.frame.specs.StuffBits.{stuffBitsIn, afterHeader, afterData, afterCrc}
@@ -27,10 +27,6 @@ headerRun headerBits = runAfterRow nothingSent headerBits
 
 abbrev pub dataRun : List ℕ → List ℕ → Run
 dataRun headerBits dataBits = runAfterRow (headerRun headerBits) dataBits
-
-pub stuffed-three : (l m n : List ℕ)
-    → stuffed nothingSent (l ++ (m ++ n)) ≡ stuffed nothingSent l ++ (stuffed (headerRun l) m ++ stuffed (dataRun l m) n)
-stuffed-three l m n = simp stuffed-append
 
 pub stuffCount-three : (l m n : List ℕ)
     → stuffCount nothingSent (l ++ (m ++ n)) ≡ stuffCount nothingSent l + (stuffCount (headerRun l) m + stuffCount (dataRun l m) n)
@@ -78,7 +74,7 @@ module _ (headerBits dataBits : List ℕ) where
       let joined = sym (append-assoc headerBits dataBits crcFront) in
       let long = length-append headerBits dataBits in
       let few : length crcFront ≤ 15 = omega (arith, length-take stuffedCrcBits (crcBits headerBits dataBits)) in
-      ap₂ (λ (r : Run) (l : List ℕ). stuffCount r l)
+      ap₂ stuffCount
       (ap (runAfterRow nothingSent) (ap (take n) joined ∙ take-at before crcFront n long) ∙ runAfterRow-append nothingSent headerBits dataBits)
       (ap (take 15) (ap (drop n) joined ∙ drop-at before crcFront n long) ∙ take-all 15 crcFront few)
 

@@ -29,16 +29,6 @@ use Rattle.frame.specs.Answers.{payloadLine}
 use Rattle.frame.proofs.HeaderBits.{header-below}
 use Rattle.frame.proofs.CrcBits.{crc-stuffed, crc-last}
 
-pub coded-few : (payload : List ℕ) (n v : ℕ) → IsField payload n v → n ≤ 8
-coded-few payload n v coded =
-    subst (λ (m : ℕ). m ≤ 8) (sym (coded .bytes ∙ field-length payload)) (fieldBytes-few (length payload) (coded .short))
-
-pub coded-line : (identifier : ℕ) (payload headerBits : List ℕ) (n v : ℕ) → IsField payload n v → headerBits ≡ header identifier n
-    → lineOf headerBits (bits (8 * n) v) ≡ payloadLine identifier payload
-unfolding frameLine
-coded-line identifier payload headerBits n v coded e =
-    ap₂ lineOf (e ∙ ap (header identifier) (coded .bytes)) (bits-unpacked 8 n v (fieldOf payload) (coded .bytes) (coded .number-is))
-
 pub frame-is : (identifier : ℕ) (payload : List ℕ) → length payload ≤ 7 →
     let headerBits = header identifier (fieldBytes (length payload)) in
     let check = crc (headerBits ++ fieldBits payload) in
@@ -67,3 +57,13 @@ line-below identifier payload =
     (below-append 2 headerBits _ (header-below identifier n)
     (below-append 2 dataBits _ (unpacked-below 8 (fieldOf payload)) (below-take 2 14 check (bits-below 15 _)))))
     (below-append 2 (drop 14 check) (ending 1) (below-drop 2 14 check (bits-below 15 _)) (bits-below 10 1023))
+
+pub coded-few : (payload : List ℕ) (n v : ℕ) → IsField payload n v → n ≤ 8
+coded-few payload n v coded =
+    subst (λ (m : ℕ). m ≤ 8) (sym (coded .bytes ∙ field-length payload)) (fieldBytes-few (length payload) (coded .short))
+
+pub coded-line : (identifier : ℕ) (payload headerBits : List ℕ) (n v : ℕ) → IsField payload n v → headerBits ≡ header identifier n
+    → lineOf headerBits (bits (8 * n) v) ≡ payloadLine identifier payload
+unfolding frameLine
+coded-line identifier payload headerBits n v coded e =
+    ap₂ lineOf (e ∙ ap (header identifier) (coded .bytes)) (bits-unpacked 8 n v (fieldOf payload) (coded .bytes) (coded .number-is))
