@@ -10,17 +10,17 @@ use Rattle.field.specs.Parts.{sizeOf}
 use Rattle.field.specs.Decode.{byteOf, decodeAnswer, payloadOf}
 use Rattle.field.specs.Reading.{bodyAnswer, bodyBytes, Says}
 use Rattle.field.specs.declared.decoding.Reading.{Reading}
-use Rattle.field.proofs.FieldParts.{loaded, words-part, padding-test}
+use Rattle.field.proofs.FieldParts.{HeldIn, words-part, padding-test}
 use Rattle.field.proofs.DecodeAnswers.{Begun, decode-body}
 
 pub body-says : (field : List ℕ) (room size count v : ℕ) (r : Reading) → Begun field room
-    → size ≡ sizeOf field → count ≡ paddingBits (sizeOf field) → v ≡ loaded field
+    → HeldIn v field → size ≡ sizeOf field → count ≡ paddingBits (sizeOf field)
     → Says r (bodyAnswer size count v) (bodyBytes size count v) → Says r (decodeAnswer field room) (payloadOf field)
 unfolding payloadOf
-body-says field room size count v r begun es ec ev says =
+body-says field room size count v r begun held es ec says =
     let allowed = begun .allowed in
     let answer : bodyAnswer size count v ≡ decodeAnswer field room
-    = rw (es, ec, ev) (sym (decode-body field room begun ∙ rw (padding-test field allowed, words-part field allowed))) in
+    = rw (es, ec) (sym (decode-body field room begun ∙ rw (padding-test field v allowed held, words-part field v allowed held))) in
     let bytes : bodyBytes size count v ≡ payloadOf field
-    = rw (es, ec, ev) (ap (λ (l : List ℕ). map byteOf (map symbolOf l)) (sym (words-part field allowed))) in
+    = rw (es, ec) (ap (λ (l : List ℕ). map byteOf (map symbolOf l)) (sym (words-part field v allowed held))) in
     subst₂ (λ (a : Answer) (p : List ℕ). Says r a p) answer bytes says

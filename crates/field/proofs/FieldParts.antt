@@ -1,6 +1,6 @@
--- The parts of a field, cut out of its number. Assumes nothing.
+-- The parts of a field, cut out of a number that holds its bits. Assumes nothing.
 --     LengthAllowed    a length that a field may have
---     loaded, bodyBits    its bytes as one number, and how many bits of that are words and padding
+--     HeldIn, bodyBits    its bits are the lowest of a number, and how many of them are words and padding
 --     field-bits       how many bits a field has
 --     words-part       the words are cut out of the number
 --     break-right, break-wrong    the break bit is right exactly when the code's numbers for it are equal
@@ -8,18 +8,17 @@
 --     payload-below, payload-length    what the words carry are bytes, as many as there are words
 use mathlib.Core.Path.{_≡_, refl, sym, ap, _∙_}
 use mathlib.Core.List.{List, [], _∷_, _++_, map}
-use Prim.Native.Nat.{ℕ, _+_, _*_, _/_, _^_, _≤_, _<_}
+use Prim.Native.Nat.{ℕ, _+_, _*_, _/_, _%_, _^_, _≤_, _<_}
 use native.Mathlib.Omega.{arith}
 use lib.Dec.{lit<, eqb}
 use lib.ListN.{length, take, drop, length-map}
-use lib.Pow.{shr-mod}
 use lib.Seq.{take-at, drop-at, drop-drop}
 use Rattle.bits.specs.Below.{Below}
 use Rattle.bits.specs.Rows.{bits, number}
 use Rattle.bits.specs.Packing.{unpacked, packed}
 use Rattle.bits.specs.Same.{same}
-use Rattle.bits.proofs.Rows.{bits-length, bits-below, bits-split, bits-number, number-low, number-below, number-only}
-use Rattle.bits.proofs.Packing.{unpacked-length, unpacked-below, packed-length}
+use Rattle.bits.proofs.Rows.{bits-length, bits-below, bits-split, number-low, number-only}
+use Rattle.bits.proofs.Packing.{unpacked-length, packed-length}
 use Rattle.bits.proofs.Same.{same-number}
 use Rattle.words.specs.Symbols.{symbolOf}
 use Rattle.words.specs.declared.Symbol.{Symbol}
@@ -38,9 +37,9 @@ pub record LengthAllowed (field : List ℕ) : Type 0 where
   pub not-one : length field ≡ 1 → ⊥
   pub at-most : length field ≤ 8
 
--- a field's bytes as one number, and how many bits of it the words and the padding have
-abbrev pub loaded : List ℕ → ℕ
-loaded field = number 0 (unpacked 8 field)
+-- a field's bits are the lowest of a number; and how many of them the words and the padding have
+abbrev pub HeldIn : ℕ → List ℕ → Type 0
+HeldIn v field = unpacked 8 field ≡ bits (8 * length field) v
 
 abbrev pub bodyBits : List ℕ → ℕ
 bodyBits field = 9 * sizeOf field + paddingBits (sizeOf field)
@@ -52,72 +51,73 @@ field-bits field allowed =
     unpacked-length 8 field ∙ omega (arith, sizes-fill (sizeOf field) (omega (arith, allowed .at-most)), back, start)
 
 -- the break bit before the rest
-split : (field : List ℕ) → LengthAllowed field
-    → unpacked 8 field ≡ bits (wordsStart field) (loaded field / 2 ^ bodyBits field) ++ bits (bodyBits field) (loaded field)
-split field allowed =
-    sym (bits-number 0 (unpacked 8 field) (unpacked-below 8 field))
-    ∙ ap (λ (n : ℕ). bits n (loaded field)) (field-bits field allowed)
-    ∙ bits-split (wordsStart field) (bodyBits field) (loaded field)
+split : (field : List ℕ) (v : ℕ) → LengthAllowed field → HeldIn v field
+    → unpacked 8 field ≡ bits (wordsStart field) (v / 2 ^ bodyBits field) ++ bits (bodyBits field) v
+split field v allowed held =
+    held
+    ∙ ap (λ (n : ℕ). bits n v) (sym (unpacked-length 8 field) ∙ field-bits field allowed)
+    ∙ bits-split (wordsStart field) (bodyBits field) v
 
-behind-break : (field : List ℕ) → LengthAllowed field → drop (wordsStart field) (unpacked 8 field) ≡ bits (bodyBits field) (loaded field)
-behind-break field allowed =
+behind-break : (field : List ℕ) (v : ℕ) → LengthAllowed field → HeldIn v field → drop (wordsStart field) (unpacked 8 field) ≡ bits (bodyBits field) v
+behind-break field v allowed held =
     let start = wordsStart field in
-    let high = loaded field / 2 ^ bodyBits field in
-    ap (drop start) (split field allowed) ∙ drop-at (bits start high) (bits (bodyBits field) (loaded field)) start (bits-length start high)
+    let high = v / 2 ^ bodyBits field in
+    ap (drop start) (split field v allowed held) ∙ drop-at (bits start high) (bits (bodyBits field) v) start (bits-length start high)
 
-pub words-part : (field : List ℕ) → LengthAllowed field → wordsPart field ≡ packed 9 (sizeOf field) (bits (bodyBits field) (loaded field))
+pub words-part : (field : List ℕ) (v : ℕ) → LengthAllowed field → HeldIn v field
+    → wordsPart field ≡ packed 9 (sizeOf field) (bits (bodyBits field) v)
 unfolding wordsPart
-words-part field allowed = ap (packed 9 (sizeOf field)) (behind-break field allowed)
+words-part field v allowed held = ap (packed 9 (sizeOf field)) (behind-break field v allowed held)
 
 -- ---- the break bit
 
-break-part : (field : List ℕ) → LengthAllowed field → breakPart field ≡ bits (wordsStart field) (loaded field / 2 ^ bodyBits field)
+-- the number of what stands in its place, as the code cuts it out
+abbrev pub highest : List ℕ → ℕ → ℕ
+highest field v = v / 2 ^ bodyBits field % 2 ^ wordsStart field
+
+break-part : (field : List ℕ) (v : ℕ) → LengthAllowed field → HeldIn v field → breakPart field ≡ bits (wordsStart field) (v / 2 ^ bodyBits field)
 unfolding breakPart
-break-part field allowed = ap (take (wordsStart field)) (split field allowed) ∙ take-at _ _ (wordsStart field) (bits-length (wordsStart field) _)
+break-part field v allowed held =
+    ap (take (wordsStart field)) (split field v allowed held) ∙ take-at _ _ (wordsStart field) (bits-length (wordsStart field) _)
 
-break-number : (field : List ℕ) → LengthAllowed field → number 0 (breakPart field) ≡ loaded field / 2 ^ bodyBits field
-break-number field allowed =
-    let start = wordsStart field in
-    let few : loaded field < 2 ^ (start + bodyBits field)
-    = rw (field-bits field allowed) at (number-below (unpacked 8 field) (unpacked-below 8 field)) in
-    ap (number 0) (break-part field allowed)
-    ∙ number-low start (loaded field / 2 ^ bodyBits field)
-    ∙ shr-mod start (bodyBits field) few
+break-number : (field : List ℕ) (v : ℕ) → LengthAllowed field → HeldIn v field → number 0 (breakPart field) ≡ highest field v
+break-number field v allowed held =
+    ap (number 0) (break-part field v allowed held) ∙ number-low (wordsStart field) (v / 2 ^ bodyBits field)
 
-pub break-right : (field : List ℕ) (high bit : ℕ) → LengthAllowed field
-    → high ≡ loaded field / 2 ^ bodyBits field → bit ≡ number 0 (breakBit (length field)) → high ≡ bit → breakPart field ≡ breakBit (length field)
-break-right field high bit allowed eh eb e =
-    let found = loaded field / 2 ^ bodyBits field in
-    let long = ap length (break-part field allowed) ∙ bits-length (wordsStart field) found in
-    let below : Below 2 (breakPart field) = rw (break-part field allowed) (bits-below (wordsStart field) found) in
+pub break-right : (field : List ℕ) (v high bit : ℕ) → LengthAllowed field → HeldIn v field
+    → high ≡ highest field v → bit ≡ number 0 (breakBit (length field)) → high ≡ bit → breakPart field ≡ breakBit (length field)
+break-right field v high bit allowed held eh eb e =
+    let found = v / 2 ^ bodyBits field in
+    let long = ap length (break-part field v allowed held) ∙ bits-length (wordsStart field) found in
+    let below : Below 2 (breakPart field) = rw (break-part field v allowed held) (bits-below (wordsStart field) found) in
     number-only (breakPart field) (breakBit (length field)) below (breakBit-below (length field)) long
-    (break-number field allowed ∙ sym eh ∙ e ∙ eb)
+    (break-number field v allowed held ∙ sym eh ∙ e ∙ eb)
 
-pub break-wrong : (field : List ℕ) (high bit : ℕ) → LengthAllowed field
-    → high ≡ loaded field / 2 ^ bodyBits field → bit ≡ number 0 (breakBit (length field)) → (high ≡ bit → ⊥) → breakPart field ≡ breakBit (length field) → ⊥
-break-wrong field high bit allowed eh eb ne e = ne (eh ∙ sym (break-number field allowed) ∙ ap (number 0) e ∙ sym eb)
+pub break-wrong : (field : List ℕ) (v high bit : ℕ) → LengthAllowed field → HeldIn v field
+    → high ≡ highest field v → bit ≡ number 0 (breakBit (length field)) → (high ≡ bit → ⊥) → breakPart field ≡ breakBit (length field) → ⊥
+break-wrong field v high bit allowed held eh eb ne e = ne (eh ∙ sym (break-number field v allowed held) ∙ ap (number 0) e ∙ sym eb)
 
 -- ---- the padding
 
-padding-part : (field : List ℕ) → LengthAllowed field → paddingPart field ≡ bits (paddingBits (sizeOf field)) (loaded field)
+padding-part : (field : List ℕ) (v : ℕ) → LengthAllowed field → HeldIn v field → paddingPart field ≡ bits (paddingBits (sizeOf field)) v
 unfolding paddingPart
-padding-part field allowed =
+padding-part field v allowed held =
     let words = 9 * sizeOf field in
     let count = paddingBits (sizeOf field) in
-    let high = loaded field / 2 ^ count in
+    let high = v / 2 ^ count in
     sym (drop-drop words (wordsStart field) (unpacked 8 field))
-    ∙ ap (drop words) (behind-break field allowed ∙ bits-split words count (loaded field))
-    ∙ drop-at (bits words high) (bits count (loaded field)) words (bits-length words high)
+    ∙ ap (drop words) (behind-break field v allowed held ∙ bits-split words count v)
+    ∙ drop-at (bits words high) (bits count v) words (bits-length words high)
 
-pub padding-test : (field : List ℕ) → LengthAllowed field
-    → same (paddingPart field) (padding 0 (paddingBits (sizeOf field))) ≡ padded (paddingBits (sizeOf field)) (loaded field)
-padding-test field allowed =
+pub padding-test : (field : List ℕ) (v : ℕ) → LengthAllowed field → HeldIn v field
+    → same (paddingPart field) (padding 0 (paddingBits (sizeOf field))) ≡ padded (paddingBits (sizeOf field)) v
+padding-test field v allowed held =
     let count = paddingBits (sizeOf field) in
-    let row = bits count (loaded field) in
-    let long = bits-length count (loaded field) ∙ sym (padding-length 0 count) in
-    ap (λ (l : List ℕ). same l (padding 0 count)) (padding-part field allowed)
-    ∙ same-number row (padding 0 count) (bits-below count (loaded field)) (padding-below 0 count (lit< tt)) long
-    ∙ ap (λ (n : ℕ). eqb n (number 0 (padding 0 count))) (number-low count (loaded field))
+    let row = bits count v in
+    let long = bits-length count v ∙ sym (padding-length 0 count) in
+    ap (λ (l : List ℕ). same l (padding 0 count)) (padding-part field v allowed held)
+    ∙ same-number row (padding 0 count) (bits-below count v) (padding-below 0 count (lit< tt)) long
+    ∙ ap (λ (n : ℕ). eqb n (number 0 (padding 0 count))) (number-low count v)
 
 -- ---- the payload
 

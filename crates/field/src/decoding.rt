@@ -1,33 +1,52 @@
-// Reading a field: whether it is accepted, and its payload as one number. Nothing is written.
+// Decoding a field that is one number: first it is read, which writes nothing, then its payload is stored.
 ghost use mathlib.Core.Path.{_≡_};
 ghost use Prim.Native.Nat.{_+_, _-_, _*_, _/_, _%_, _^_, _≤_, _<_};
+ghost use lib.ListN.{length};
+ghost use Rattle.refusals.specs.After.{after};
+ghost use Rattle.field.specs.Coded.{fieldFrom};
 ghost use Rattle.field.specs.Decode.{decodeAnswer, payloadOf};
 ghost use Rattle.field.specs.Reading.{bodyAnswer, bodyBytes, Says};
 use crate::bytes;
 use crate::padding;
 use crate::table;
+use refusals::Answer;
 use refusals::Refusal;
 use words::Symbol;
 use words::reverse_list;
 
 // The payload as one number, or why the field is refused.
-pub(crate) enum Reading {
+enum Reading {
     Payload(u64),
     Refused(Refusal),
 }
 
+// Decodes the field of n bytes whose bits are the lowest of a number: the length of its payload, which stands at the start of
+// `payload`. Refused with 2 to 7.
+pub fn decode_number(n: usize, number: u64, payload: &mut [u8]) -> Answer
+    ensures answer { λ r. ⌜ r ≡ decodeAnswer (fieldFrom n number) (length (now (payload .entry))) ⌝ }
+    ensures memory { λ r. ⌜ now (payload .exit) ≡ after r (payloadOf (fieldFrom n number)) (now (payload .entry)) ⌝ }
+{
+    match read(n, number, payload.len()) {
+        Reading::Payload(bytes) => {
+            let size = size_of(n);
+            bytes::store(bytes, size, payload);
+            Answer::Length(size)
+        }
+        Reading::Refused(refusal) => Answer::Refused(refusal),
+    }
+}
+
 // How many bytes the payload of a field of n bytes has: none that of the empty field.
-pub(crate) fn size_of(n: usize) -> usize
+fn size_of(n: usize) -> usize
     ensures { λ r. ⌜ r ≡ n - 1 ⌝ }
 {
     if n == 0 { 0 } else { n - 1 }
 }
 
-// Reads a field; `room` is the length of the buffer that its payload would go to.
-pub(crate) fn read(field: &[u8], room: usize) -> Reading
-    ensures { λ r. ⌜ Says r (decodeAnswer (now (field .entry)) room) (payloadOf (now (field .entry))) ⌝ }
+// Reads the field of n bytes in a number; `room` is the length of the buffer that its payload would go to.
+fn read(n: usize, number: u64, room: usize) -> Reading
+    ensures { λ r. ⌜ Says r (decodeAnswer (fieldFrom n number) room) (payloadOf (fieldFrom n number)) ⌝ }
 {
-    let n = field.len();
     if n == 1 {
         return Reading::Refused(Refusal::FieldLength(0));
     }
@@ -39,8 +58,9 @@ pub(crate) fn read(field: &[u8], room: usize) -> Reading
         return Reading::Refused(Refusal::RoomShort);
     }
     let row = table::row_of(size);
-    let number = bytes::load(field);
-    if number >> (9 * size + row.padding) != row.break_bit {
+    let body_bits = 9 * size + row.padding;
+    // Above words and padding stands the break bit; the empty field has none.
+    if lowest(number >> body_bits, 8 * n - body_bits) != row.break_bit {
         return Reading::Refused(Refusal::BreakBit);
     }
     body(number, size, row.padding)

@@ -9,12 +9,11 @@ ghost use Rattle.field.specs.Encode.{encodeAnswer};
 ghost use Rattle.field.specs.Decode.{decodeAnswer, payloadOf};
 
 mod bytes;
-mod decoding;
+pub mod decoding;
 pub mod encoding;
 mod padding;
 pub mod table;
 
-use decoding::Reading;
 use encoding::Coded;
 use refusals::Answer;
 use refusals::Refusal;
@@ -41,12 +40,10 @@ pub fn decode(field: &[u8], payload: &mut [u8]) -> Answer
     ensures answer { λ r. ⌜ r ≡ decodeAnswer (now (field .entry)) (length (now (payload .entry))) ⌝ }
     ensures memory { λ r. ⌜ now (payload .exit) ≡ after r (payloadOf (now (field .entry))) (now (payload .entry)) ⌝ }
 {
-    match decoding::read(field, payload.len()) {
-        Reading::Payload(number) => {
-            let size = decoding::size_of(field.len());
-            bytes::store(number, size, payload);
-            Answer::Length(size)
-        }
-        Reading::Refused(refusal) => Answer::Refused(refusal),
+    let n = field.len();
+    // More bytes do not go into one number.
+    if 8 < n {
+        return Answer::Refused(Refusal::FieldLength(0));
     }
+    decoding::decode_number(n, bytes::load(field), payload)
 }

@@ -1,88 +1,119 @@
 -- `field::decoding::read` meets its contract: at each return the tests that led there decide the answer. Assumes nothing.
 use mathlib.Core.Path.{_≡_, sym, ap, ap₂, _∙_, subst}
 use mathlib.Core.List.{List}
-use Prim.Native.Nat.{ℕ, _+_, _-_, _*_, _/_, _^_, _≤_, _<_}
+use Prim.Native.Nat.{ℕ, _+_, _-_, _*_, _/_, _%_, _^_, _≤_, _<_}
+use native.Mathlib.Nat.{add-sub-cancel}
 use native.Mathlib.Omega.{arith}
 use lib.ListN.{length}
 use borrow.Author.Needs.{needs}
-use Rattle.bits.specs.Rows.{number}
+use Rattle.bits.specs.Rows.{bits, number}
+use Rattle.bits.proofs.Packing.{unpacked-length}
 use Rattle.field.specs.Sizes.{fieldBytes, breakBit, paddingBits}
-use Rattle.field.specs.Parts.{sizeOf}
+use Rattle.field.specs.Parts.{sizeOf, wordsStart}
+use Rattle.field.specs.Coded.{fieldFrom}
 use Rattle.field.specs.declared.table.Row.{Row}
 use Rattle.field.proofs.Sizes.{fieldBytes-back, paddingBits-few, body-few}
-use Rattle.field.proofs.FieldParts.{LengthAllowed, loaded, bodyBits, break-right, break-wrong}
+use Rattle.field.proofs.Coded.{from-length, from-bits}
+use Rattle.field.proofs.FieldParts.{LengthAllowed, HeldIn, bodyBits, field-bits, highest, break-right, break-wrong}
 use Rattle.field.proofs.DecodeAnswers.{Begun, decode-one, decode-long, decode-short, decode-broken}
 use Rattle.field.proofs.BodyRead.{body-says}
 use Rattle.field.proofs.decoding.read.Statement.{statement}
 use Rattle.field.proofs.decoding.read.Tie as tie
 
 returns : tie.Need-returns
-returns c = decode-one _ _ (c .if1 .taken)
+returns c = decode-one _ _ (from-length _ _ ∙ c .if1 .taken)
 
 returns-2 : tie.Need-returns-2
-returns-2 c = decode-long (c .before .before .before .args .field .now) _ (omega arith)
+returns-2 c =
+    let a = c .before .before .args in
+    decode-long (fieldFrom (a .n) (a .number)) _ (omega (arith, from-length (a .n) (a .number)))
 
 size-of-requires : tie.Need-size-of-requires
 size-of-requires c κs = search needs
 
--- what is known of the field's length and its payload's
-allowed : (c : tie.After-size-of) → LengthAllowed (c .before .before .before .before .args .field .now)
-allowed c = record { not-one = c .before .before .if1 .left; at-most = omega arith }
+-- the field, and what is known of its length, its payload's and its bits
+abbrev field : tie.After-size-of → List ℕ
+field c = fieldFrom (c .before .before .before .args .n) (c .before .before .before .args .number)
+
+long : (c : tie.After-size-of) → length (field c) ≡ c .before .before .before .args .n
+long c = from-length _ _
+
+allowed : (c : tie.After-size-of) → LengthAllowed (field c)
+allowed c = record { not-one = λ e. c .before .before .if1 .left (sym (long c) ∙ e); at-most = omega (arith, long c) }
+
+size : (c : tie.After-size-of) → c .size-of .result ≡ sizeOf (field c)
+size c = c .size-of .ensures ∙ ap (λ (n : ℕ). n - 1) (sym (long c))
+
+held : (c : tie.After-size-of) → HeldIn (c .before .before .before .args .number) (field c)
+held c = from-bits _ _ ∙ ap (λ (n : ℕ). bits (8 * n) (c .before .before .before .args .number)) (sym (long c))
 
 returns-3 : tie.Need-returns-3
-returns-3 c = decode-short _ _ (allowed (c .before)) (rw (c .before .size-of .ensures) at (c .if3 .taken))
+returns-3 c = decode-short _ _ (allowed (c .before)) (rw (size (c .before)) at (c .if3 .taken))
 
 row-of-requires : tie.Need-row-of-requires
 row-of-requires c κs = search needs
 
--- the field, and the row's numbers
-abbrev lent : tie.After-row-of → List ℕ
-lent c = c .before .before .before .before .before .before .args .field .now
-
-bit : (c : tie.After-row-of) → c .row-of .result .«break_bit» ≡ number 0 (breakBit (length (lent c)))
+-- the row's numbers
+bit : (c : tie.After-row-of) → c .row-of .result .«break_bit» ≡ number 0 (breakBit (length (field (c .before .before))))
 bit c =
-    let back = fieldBytes-back (length (lent c)) (allowed (c .before .before) .not-one) in
+    let sized = c .before .before in
     ap (λ (r : Row). r .«break_bit») (c .row-of .ensures)
-    ∙ ap (λ (n : ℕ). number 0 (breakBit n)) (ap fieldBytes (c .before .before .size-of .ensures) ∙ back)
+    ∙ ap (λ (n : ℕ). number 0 (breakBit n)) (ap fieldBytes (size sized) ∙ fieldBytes-back _ (allowed sized .not-one))
 
-pad : (c : tie.After-row-of) → c .row-of .result .padding ≡ paddingBits (sizeOf (lent c))
-pad c = ap (λ (r : Row). r .padding) (c .row-of .ensures) ∙ ap paddingBits (c .before .before .size-of .ensures)
+pad : (c : tie.After-row-of) → c .row-of .result .padding ≡ paddingBits (sizeOf (field (c .before .before)))
+pad c = ap (λ (r : Row). r .padding) (c .row-of .ensures) ∙ ap paddingBits (size (c .before .before))
 
+pad-few : (c : tie.After-row-of) → c .row-of .result .padding ≤ 8
+pad-few c = subst (λ (n : ℕ). n ≤ 8) (sym (pad c)) (paddingBits-few (sizeOf (field (c .before .before))))
+
+-- where they cut the field's bits
 body-bits : (c : tie.After-row-of)
-    → 9 * c .before .before .size-of .result + c .row-of .result .padding ≡ bodyBits (lent c)
-body-bits c = ap₂ (λ (size p : ℕ). 9 * size + p) (c .before .before .size-of .ensures) (pad c)
+    → 9 * c .before .before .size-of .result + c .row-of .result .padding ≡ bodyBits (field (c .before .before))
+body-bits c = ap₂ (λ (s p : ℕ). 9 * s + p) (size (c .before .before)) (pad c)
 
 body-below : (c : tie.After-row-of) → 9 * c .before .before .size-of .result + c .row-of .result .padding < 64
 body-below c =
-    let size : sizeOf (lent c) ≤ 7 = omega arith in
-    subst (λ (n : ℕ). n < 64) (sym (body-bits c)) (body-few _ size)
+    let few : sizeOf (field (c .before .before)) ≤ 7 = omega (arith, allowed (c .before .before) .at-most) in
+    subst (λ (n : ℕ). n < 64) (sym (body-bits c)) (body-few _ few)
 
-pad-few : (c : tie.After-row-of) → c .row-of .result .padding ≤ 8
-pad-few c = subst (λ (n : ℕ). n ≤ 8) (sym (pad c)) (paddingBits-few (sizeOf (lent c)))
+all-bits : (c : tie.After-size-of) → 8 * c .before .before .before .args .n ≡ wordsStart (field c) + bodyBits (field c)
+all-bits c = ap (8 *_) (sym (long c)) ∙ sym (unpacked-length 8 (field c)) ∙ field-bits (field c) (allowed c)
 
--- the number of the field, without its words and its padding
-high : (c : tie.After-load) →
-    c .load .result / 2 ^ (9 * c .before .before .before .size-of .result + c .before .row-of .result .padding)
-    ≡ loaded (lent (c .before)) / 2 ^ bodyBits (lent (c .before))
-high c = ap₂ (λ (n k : ℕ). n / 2 ^ k) (c .load .ensures) (body-bits (c .before))
+mul-body-bits : tie.Need-mul-body-bits
+mul-body-bits c = search needs
 
-load-requires : tie.Need-load-requires
-load-requires c κs = search needs
+add-body-bits : tie.Need-add-body-bits
+add-body-bits c = omega (arith, body-below (c .before))
 
-mul-if4 : tie.Need-mul-if4
-mul-if4 c = search needs
+shr-lowest : tie.Need-shr-lowest
+shr-lowest c = body-below (c .before)
 
-add-if4 : tie.Need-add-if4
-add-if4 c = omega (arith, body-below (c .before .before))
+mul-lowest : tie.Need-mul-lowest
+mul-lowest c = search needs
 
-shr-if4 : tie.Need-shr-if4
-shr-if4 c = body-below (c .before .before)
+sub-lowest : tie.Need-sub-lowest
+sub-lowest c = omega (arith, body-bits (c .before), all-bits (c .before .before .before))
+
+lowest-requires : tie.Need-lowest-requires
+lowest-requires c κs = search needs
+
+-- what stands in the break bit's place
+high : (c : tie.After-lowest) →
+    let sized = c .before .before .before .before in
+    c .lowest .result ≡ highest (field sized) (sized .before .before .before .args .number)
+high c =
+    let row = c .before .before in
+    let sized = row .before .before in
+    let v = sized .before .before .before .args .number in
+    let start = ap₂ _-_ (all-bits sized) (body-bits row) ∙ add-sub-cancel (wordsStart (field sized)) _ in
+    c .lowest .ensures ∙ ap₂ (λ (j k : ℕ). v / 2 ^ j % 2 ^ k) (body-bits row) start
 
 returns-4 : tie.Need-returns-4
 returns-4 c =
     let row = c .before .before .before .before in
-    let may = allowed (row .before .before) in
-    decode-broken _ _ may (omega arith) (break-wrong _ _ _ may (high (c .before .before .before)) (bit row) (c .if4 .taken))
+    let sized = row .before .before in
+    decode-broken _ _ (allowed sized) (omega (arith, size sized))
+    (break-wrong _ _ _ _ (allowed sized) (held sized) (high (c .before .before)) (bit row) (c .if4 .taken))
 
 body-requires : tie.Need-body-requires
 body-requires c κs =
@@ -91,16 +122,16 @@ body-requires c κs =
 
 returns-5 : tie.Need-returns-5
 returns-5 c =
-    let load = c .before .before .before .before in
-    let row = load .before in
+    let cut = c .before .before .before in
+    let row = cut .before .before in
     let sized = row .before .before in
-    let begun : Begun (lent row) (row .before .before .before .before .before .before .args .room)
+    let begun : Begun (field sized) (sized .before .before .before .args .room)
     = record {
       allowed = allowed sized;
-      fits = omega arith;
-      break-is = break-right _ _ _ (allowed sized) (high load) (bit row) (c .before .if4 .left);
+      fits = omega (arith, size sized);
+      break-is = break-right _ _ _ _ (allowed sized) (held sized) (high cut) (bit row) (c .before .if4 .left);
     } in
-    body-says _ _ _ _ _ (c .body .result) begun (sized .size-of .ensures) (pad row) (load .load .ensures) (c .body .ensures)
+    body-says _ _ _ _ _ (c .body .result) begun (held sized) (size sized) (pad row) (c .body .ensures)
 
 pub read-spec : {M : Type 1} → statement M
 read-spec =
@@ -111,10 +142,12 @@ read-spec =
     size-of-requires
     returns-3
     row-of-requires
-    load-requires
-    mul-if4
-    add-if4
-    shr-if4
+    mul-body-bits
+    add-body-bits
+    shr-lowest
+    mul-lowest
+    sub-lowest
+    lowest-requires
     returns-4
     body-requires
     returns-5)
