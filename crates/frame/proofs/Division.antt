@@ -5,6 +5,7 @@
 --     divide-top          where it is 1 the divisor is taken off, once
 --     remainder-append    a row behind a row
 --     remainder-next      the next bit where a loop counts down the bits that are left
+--     crc-below           the CRC has 15 bits
 --     crc-parts           the CRC of two rows, from the parts that the code brings down
 use mathlib.Core.Path.{_≡_, refl, sym, _∙_}
 use mathlib.Core.List.{List, [], _∷_, _++_}
@@ -68,6 +69,15 @@ pub remainder-next : (register left number : ℕ) → 0 < left →
     remainder (divide register (number / 2 ^ (left - 1) % 2)) (bits (left - 1) number) ≡ remainder register (bits left number)
 unfolding remainder
 remainder-next register left number h = rw (bits-next left number h)
+
+remainder-below : (register : ℕ) (l : List ℕ) → register < 2 ^ 15 → remainder register l < 2 ^ 15
+unfolding remainder
+remainder-below register [] h = h
+remainder-below register (b ∷ l) h = remainder-below (divide register b) l (divide-below register b)
+
+pub crc-below : (l : List ℕ) → crc l < 2 ^ 15
+unfolding crc
+crc-below l = remainder-below 0 (l ++ replicate 15 0) (lit< tt)
 
 zeros : replicate 15 0 ≡ bits 15 0
 unfolding bits

@@ -37,7 +37,7 @@ module _ (headerBits dataBits : List ℕ) where
   abbrev pub crcFront : List ℕ
   crcFront = take stuffedCrcBits (crcBits headerBits dataBits)
 
-  crc-length : length (crcBits headerBits dataBits) ≡ 15
+  pub crc-length : length (crcBits headerBits dataBits) ≡ 15
   unfolding crcBits
   crc-length = bits-length 15 _
 

@@ -1,10 +1,29 @@
 // The CRC of a frame, by long division.
 ghost use mathlib.Core.Path.{_≡_};
 ghost use mathlib.Core.List.{_++_};
-ghost use Prim.Native.Nat.{_<_, _^_};
+ghost use Prim.Native.Nat.{_*_, _%_, _^_, _<_};
+ghost use Rattle.bits.specs.Rows.{bits};
 ghost use Rattle.frame.specs.Crc.{divide, remainder, crc};
+ghost use Rattle.frame.specs.Header.{dataBytes};
 ghost use Rattle.frame.specs.Parts.{row, Fits};
+use crate::header;
 use crate::parts::Part;
+
+// The CRC of a header and the data field that its DLC announces, each the lowest bits of a number.
+pub fn of_frame(header: u64, field: u64) -> u64
+    ensures { λ r. ⌜ r ≡ crc (bits 19 header ++ bits (8 * dataBytes (header % 16)) field) ⌝ }
+{
+    let n = header::data_bytes(header % 16);
+    let header = Part {
+        number: header,
+        count: 19,
+    };
+    let field = Part {
+        number: field,
+        count: 8 * n,
+    };
+    of(header, field)
+}
 
 // The CRC of header and data field.
 pub(crate) fn of(header: Part, field: Part) -> u64

@@ -1,7 +1,7 @@
 // The header of a base data frame.
 ghost use mathlib.Core.Path.{_≡_};
-ghost use Prim.Native.Nat.{_<_};
-ghost use Rattle.frame.specs.Header.{header};
+ghost use Prim.Native.Nat.{_≤_, _<_};
+ghost use Rattle.frame.specs.Header.{header, dataBytes};
 ghost use Rattle.frame.specs.Parts.{row};
 use crate::parts::Part;
 
@@ -14,4 +14,11 @@ pub(crate) fn of(identifier: u32, n: usize) -> Part
         number: (identifier as u64) * 128 + n as u64,
         count: 19,
     }
+}
+
+// How many data bytes a DLC stands for.
+pub(crate) fn data_bytes(dlc: u64) -> usize
+    ensures { λ r. ⌜ (r ≡ dataBytes dlc) × (r ≤ 8) ⌝ }
+{
+    if 8 < dlc { 8 } else { dlc as usize }
 }
