@@ -1,0 +1,49 @@
+-- The bit in the ACK slot of a made line, over any header and any data field. Assumes nothing.
+--     line-ack    the line with a bit set there
+--     line-own    it has a 1 there of its own
+--     ack-again   and has it again, whatever bit was set there before
+use mathlib.Core.Path.{_≡_, sym, ap, _∙_}
+use mathlib.Core.List.{List, [], _∷_, _++_, append-assoc}
+use Prim.Native.Nat.{ℕ, _-_}
+use native.Mathlib.Omega.{arith}
+use lib.ListN.{length, drop, set, replicate, length-append}
+use lib.Seq.{set-at}
+use Rattle.bits.specs.Stuffing.{nothingSent, stuffed}
+use Rattle.frame.specs.Line.{crcBits, stuffedCrcBits, stuffedRow, ending, lineOf}
+use Rattle.line.specs.Ack.{withAck}
+
+with-ack : (ack other : ℕ) (l : List ℕ) → withAck ack (l ++ ending other) ≡ l ++ ending ack
+unfolding withAck
+with-ack ack other l =
+    let upto = l ++ (1 ∷ []) in
+    let at = length (l ++ ending other) - 9 in
+    let size : length upto ≡ at = omega (arith, length-append l (1 ∷ []), length-append l (ending other)) in
+    ap (λ (m : List ℕ). set m at ack) (sym (append-assoc l (1 ∷ []) (other ∷ replicate 8 1)))
+    ∙ set-at upto other (replicate 8 1) ack at size ∙ append-assoc l (1 ∷ []) (ack ∷ replicate 8 1)
+
+module _ (headerBits dataBits : List ℕ) where
+  -- the line up to the frame's ending
+  abbrev stuffedBits : List ℕ
+  stuffedBits = stuffed nothingSent (stuffedRow headerBits dataBits)
+
+  abbrev lastBit : List ℕ
+  lastBit = drop stuffedCrcBits (crcBits headerBits dataBits)
+
+  abbrev front : List ℕ
+  front = stuffedBits ++ lastBit
+
+  line-front : lineOf headerBits dataBits ≡ front ++ ending 1
+  unfolding lineOf
+  line-front = sym (append-assoc stuffedBits lastBit (ending 1))
+
+  front-ack : (ack : ℕ) → withAck ack (lineOf headerBits dataBits) ≡ front ++ ending ack
+  front-ack ack = ap (withAck ack) line-front ∙ with-ack ack 1 front
+
+  pub line-ack : (ack : ℕ) → withAck ack (lineOf headerBits dataBits) ≡ stuffedBits ++ (lastBit ++ ending ack)
+  line-ack ack = front-ack ack ∙ append-assoc stuffedBits lastBit (ending ack)
+
+  pub line-own : withAck 1 (lineOf headerBits dataBits) ≡ lineOf headerBits dataBits
+  line-own = front-ack 1 ∙ sym line-front
+
+  pub ack-again : (ack : ℕ) → withAck 1 (withAck ack (lineOf headerBits dataBits)) ≡ lineOf headerBits dataBits
+  ack-again ack = ap (withAck 1) (front-ack ack) ∙ with-ack 1 ack front ∙ sym line-front

@@ -1,0 +1,55 @@
+-- Lines read by hand, as one statement over one list. Assumes nothing.
+--     lines-right    what reading each of them answers, in the document's numbers
+use mathlib.Core.Path.{_≡_, refl}
+use mathlib.Core.List.{List, [], _∷_, _++_, map}
+use Prim.Native.Nat.{ℕ}
+use lib.ListN.{set, replicate}
+use Rattle.bits.specs.Rows.{bits, number}
+use Rattle.bits.specs.Packing.{unpacked, packed}
+use Rattle.words.specs.Symbols.{symbolOf}
+use Rattle.field.specs.Padding.{padding}
+use Rattle.field.specs.Parts.{breakPart, wordsPart, paddingPart}
+use Rattle.field.specs.Decode.{decodeAnswer}
+use Rattle.frame.specs.Crc.{xor, divide, remainder, crc}
+use Rattle.line.specs.Fields.{fieldsOf, form}
+use Rattle.line.specs.Scan.{dlcIn, crcStart, complete, stuffDue, mustBe, shown, verdict, runWith, frameWith, scan, scanned}
+use Rattle.line.specs.Read.{identifierIn, fieldIn, readAnswer, lineNumbers}
+
+-- the frame of identifier 0 and the empty payload: 19 + 15 bits 0, six times five of them with a stuff bit; the last is at place 39
+abbrev pub empty : List ℕ
+empty = unpacked 6 (replicate 6 1) ++ (replicate 4 0 ++ replicate 10 1)
+
+-- start of frame and an identifier of eleven bits
+abbrev pub begins : ℕ → List ℕ
+begins identifier = 0 ∷ bits 11 identifier
+
+-- a line, and its answer where there is room for seven bytes: 0, identifier and length; or a refusal's number and its place
+abbrev pub cases : List (List ℕ × List ℕ)
+cases =
+    (empty, 0 ∷ 0 ∷ 0 ∷ [])
+    ∷ (set empty 41 0, 0 ∷ 0 ∷ 0 ∷ [])  -- the ACK slot
+    -- the line ends before a bit, and before a stuff bit; it goes on
+    ∷ ([], 11 ∷ 0 ∷ [])
+    ∷ (replicate 5 0, 11 ∷ 5 ∷ [])
+    ∷ (empty ++ (7 ∷ []), 11 ∷ 50 ∷ [])
+    -- 9 comes before 13, and before 10
+    ∷ (2 ∷ [], 9 ∷ 0 ∷ [])
+    ∷ (set empty 5 2, 9 ∷ 5 ∷ [])
+    -- a sixth equal bit; one behind IDE
+    ∷ (set empty 5 0, 10 ∷ 5 ∷ [])
+    ∷ (begins 0b10101011000 ++ (0 ∷ 0 ∷ 0 ∷ []), 10 ∷ 14 ∷ [])
+    -- start of frame, CRC delimiter, ACK delimiter, the last end bit
+    ∷ (1 ∷ [], 13 ∷ 0 ∷ [])
+    ∷ (set empty 40 0, 13 ∷ 40 ∷ [])
+    ∷ (set empty 42 0, 13 ∷ 42 ∷ [])
+    ∷ (set empty 49 0, 13 ∷ 49 ∷ [])
+    -- the last CRC bit
+    ∷ (set empty 39 1, 12 ∷ 39 ∷ [])
+    -- DLC 1; DLC 15 and a sixth 1 behind it
+    ∷ (unpacked 6 (replicate 3 1) ++ bits 4 1, 3 ∷ 21 ∷ [])
+    ∷ (begins 0b10101010100 ++ (0 ∷ 0 ∷ 0 ∷ 1 ∷ bits 5 31), 3 ∷ 19 ∷ [])
+    ∷ []
+
+pub lines-right : map (λ (c : List ℕ × List ℕ). lineNumbers (readAnswer (c .0) 7)) cases ≡ map (λ (c : List ℕ × List ℕ). c .1) cases
+unfolding bits number unpacked packed symbolOf padding breakPart wordsPart paddingPart decodeAnswer xor divide remainder crc form fieldsOf dlcIn crcStart complete stuffDue mustBe shown verdict runWith frameWith scan scanned identifierIn fieldIn readAnswer
+lines-right = refl

@@ -1,0 +1,138 @@
+-- The bits of a frame: of an identifier, the bytes of a data field and a bit in the ACK slot. Assumes nothing.
+--     frameBits      these bits, in the order they are sent, without stuff bits
+--     front-length, frame-start    the CRC stands behind header and data bits
+--     frame-right    they are right
+--     identifier-back, field-back    identifier and data field are found in them again
+use mathlib.Core.Path.{_≡_, refl, sym, ap, ap₂, _∙_}
+use mathlib.Core.List.{List, [], _∷_, _++_, append-assoc}
+use Prim.Native.Nat.{ℕ, _+_, _*_, _≤_, _<_}
+use native.Mathlib.Nat.{mod-eq-of-lt}
+use native.Mathlib.Omega.{arith}
+use lib.Dec.{lit<}
+use lib.ListN.{length, take, drop, replicate, length-append, length-replicate}
+use lib.Seq.{take-at, drop-at}
+use Rattle.bits.specs.Below.{Below}
+use Rattle.bits.specs.Rows.{bits, number}
+use Rattle.bits.specs.Packing.{unpacked, packed}
+use Rattle.bits.proofs.Below.{below-append}
+use Rattle.bits.proofs.Rows.{bits-length, bits-below, number-low}
+use Rattle.bits.proofs.Packing.{unpacked-length, unpacked-below, packed-unpacked}
+use Rattle.frame.specs.Header.{header}
+use Rattle.frame.specs.Crc.{crc}
+use Rattle.frame.specs.Line.{crcBits, ending}
+use Rattle.frame.proofs.HeaderBits.{header-length, header-below, dlc-in-place}
+use Rattle.frame.proofs.Division.{crc-below}
+use Rattle.frame.proofs.LineParts.{crc-length}
+use Rattle.line.specs.Fields.{either, fieldsOf, form}
+use Rattle.line.specs.Scan.{dlcIn, crcStart}
+use Rattle.line.specs.Read.{identifierIn, fieldIn}
+use Rattle.line.proofs.Partial.{headerForm, dataForm, crcForm, form-is, dlc-stays}
+use Rattle.line.proofs.Fits.{Fits, fits-append, fits-free, fits-same}
+use Rattle.line.proofs.Right.{Right}
+
+module _ (identifier : ℕ) (field : List ℕ) where
+  abbrev pub headerBits : List ℕ
+  headerBits = header identifier (length field)
+
+  abbrev pub dataBits : List ℕ
+  dataBits = unpacked 8 field
+
+  abbrev checkBits : List ℕ
+  checkBits = crcBits headerBits dataBits
+
+  unfoldable pub frameBits : ℕ → List ℕ
+  frameBits ack = headerBits ++ (dataBits ++ (checkBits ++ ending ack))
+
+  parts : (ack : ℕ) → frameBits ack ≡ (headerBits ++ dataBits) ++ (checkBits ++ ending ack)
+  unfolding frameBits
+  parts ack = sym (append-assoc headerBits dataBits (checkBits ++ ending ack))
+
+  frame-dlc : (ack : ℕ) → length field ≤ 8 → dlcIn (frameBits ack) ≡ length field
+  unfolding frameBits dlcIn bits
+  frame-dlc ack few =
+      dlc-stays headerBits (dataBits ++ (checkBits ++ ending ack)) (omega (arith, header-length identifier (length field)))
+      ∙ ap (λ (l : List ℕ). number 0 (take 4 l)) (dlc-in-place identifier (length field))
+      ∙ number-low 4 (length field) ∙ mod-eq-of-lt (omega arith)
+
+  pub front-length : length (headerBits ++ dataBits) ≡ 19 + 8 * length field
+  front-length = simp length-append (omega (arith, header-length identifier (length field), unpacked-length 8 field))
+
+  pub frame-start : (ack : ℕ) → length field ≤ 8 → crcStart (frameBits ack) ≡ length (headerBits ++ dataBits)
+  unfolding crcStart
+  frame-start ack few = rw (frame-dlc ack few) (sym front-length)
+
+  -- ---- they are right
+
+  frame-below : (ack : ℕ) → ack < 2 → Below 2 (frameBits ack)
+  unfolding frameBits crcBits bits
+  frame-below ack h =
+      below-append 2 headerBits _ (header-below identifier (length field))
+      (below-append 2 dataBits _ (unpacked-below 8 field)
+      (below-append 2 checkBits (ending ack) (bits-below 15 _) (lit< tt, (h, bits-below 8 255))))
+
+  frame-long : (ack : ℕ) → length field ≤ 8 → length (frameBits ack) ≡ crcStart (frameBits ack) + 25
+  frame-long ack few =
+      let check = crc-length headerBits dataBits in
+      rw (frame-start ack few, parts ack)
+      (omega (arith, length-append (headerBits ++ dataBits) (checkBits ++ ending ack), length-append checkBits (ending ack)))
+
+  header-fits : Fits headerForm headerBits
+  unfolding header
+  header-fits =
+      let must : List ℕ = 0 ∷ 0 ∷ 0 ∷ replicate 4 either in
+      let last : List ℕ = 0 ∷ 0 ∷ 0 ∷ bits 4 (length field) in
+      let fits : Fits must last = (refl, (refl, (refl, fits-free 4 (bits 4 (length field))))) in
+      let identifierBits = bits 11 identifier in
+      let size = sym (bits-length 11 identifier) in
+      (refl, fits-append (replicate 11 either) must identifierBits last size (fits-free 11 identifierBits) fits)
+
+  frame-fits : (ack : ℕ) → Fits (form (fieldsOf (length field))) (frameBits ack)
+  unfolding frameBits
+  frame-fits ack =
+      let n = length field in
+      let size : length (dataForm n) ≡ length dataBits = length-replicate (8 * n) either ∙ sym (unpacked-length 8 field) in
+      let check = sym (crc-length headerBits dataBits) in
+      let last : Fits (ending either) (ending ack) = (refl, (fits-free 1 (ack ∷ []) .0, fits-same (replicate 8 1))) in
+      rw (form-is n)
+      (fits-append headerForm (dataForm n ++ (crcForm ++ ending either)) headerBits (dataBits ++ (checkBits ++ ending ack))
+      (sym (header-length identifier n)) header-fits
+      (fits-append (dataForm n) (crcForm ++ ending either) dataBits (checkBits ++ ending ack) size (fits-free (8 * n) dataBits)
+      (fits-append crcForm (ending either) checkBits (ending ack) check (fits-free 15 checkBits) last)))
+
+  frame-check : (ack : ℕ) → length field ≤ 8 →
+      let all = frameBits ack in
+      number 0 (take 15 (drop (crcStart all) all)) ≡ crc (take (crcStart all) all)
+  unfolding crcBits
+  frame-check ack few =
+      let front = headerBits ++ dataBits in
+      let behind = checkBits ++ ending ack in
+      let start = frame-start ack few in
+      ap (λ (l : List ℕ). number 0 (take 15 l)) (ap₂ drop start (parts ack) ∙ drop-at front behind (length front) refl)
+      ∙ ap (number 0) (take-at checkBits (ending ack) 15 (crc-length headerBits dataBits))
+      ∙ number-low 15 (crc front) ∙ mod-eq-of-lt (crc-below front)
+      ∙ sym (ap crc (ap₂ take start (parts ack) ∙ take-at front behind (length front) refl))
+
+  pub frame-right : (ack : ℕ) → length field ≤ 8 → (length field ≡ 1 → ⊥) → ack < 2 → Right (frameBits ack)
+  frame-right ack few not-one h =
+      let dlc = frame-dlc ack few in
+      record {
+        below = frame-below ack h;
+        long = frame-long ack few;
+        fits = rw dlc (frame-fits ack);
+        not-one = λ e. not-one (sym dlc ∙ e);
+        at-most = omega arith;
+        check = frame-check ack few;
+      }
+
+  -- ---- what is found in them
+
+  pub identifier-back : (ack : ℕ) → identifier < 2048 → identifierIn (frameBits ack) ≡ identifier
+  unfolding frameBits identifierIn header bits
+  identifier-back ack h = number-low 11 identifier ∙ mod-eq-of-lt h
+
+  pub field-back : (ack : ℕ) → Below 256 field → length field ≤ 8 → fieldIn (frameBits ack) ≡ field
+  unfolding frameBits fieldIn
+  field-back ack h few =
+      let rest = checkBits ++ ending ack in
+      ap₂ (packed 8) (frame-dlc ack few) (drop-at headerBits (dataBits ++ rest) 19 (header-length identifier (length field)))
+      ∙ packed-unpacked 8 field rest h

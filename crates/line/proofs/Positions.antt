@@ -1,0 +1,205 @@
+-- Where the fields of a frame stand. Assumes nothing.
+--     startOf, endOf    the positions of field f's first bit and of the one behind its last, where the frame has n data bytes
+--     stage             which part of the frame a field is in
+--     next-start        a field starts where the one before it ends
+--     must-is           the bit that must stand next is the field's
+--     due-is            a stuff bit is due as the field says
+--     not-complete      no field ends behind the frame
+use mathlib.Core.Path.{_≡_, refl, sym, ap, _∙_, subst}
+use mathlib.Core.Bool.{Bool, true, false, cond, _&&_, and-true, and-false}
+use mathlib.Core.List.{List, [], _∷_}
+use Prim.Native.Nat.{ℕ, zero, suc, _+_, _-_, _*_, _≤_, _<_}
+use native.Mathlib.Nat.{zero-add, suc-add}
+use native.Mathlib.Numerals.{add-one}
+use native.Mathlib.Omega.{arith}
+use lib.Dec.{eqb, leb, ltb}
+use lib.ListN.{length, getD, replicate, length-replicate, getD-replicate, List·getD-append}
+use lib.Seq.{getD-append-add}
+use borrow.Author.Tests.{lt-ltb, le-ltb, le-leb, lt-leb, ne-eqb, ltb-true, ltb-false, eqb-true, eqb-false}
+use Rattle.bits.specs.declared.Run.{Run}
+use Rattle.line.specs.Fields.{fixed, either, fieldsOf, form}
+use Rattle.line.specs.Scan.{dlcIn, crcStart, complete, stuffDue, mustBe}
+use Rattle.line.specs.Steps.{dueIn}
+use Rattle.line.specs.declared.fields.Field.{Field}
+use Rattle.line.proofs.Partial.{must-early}
+
+abbrev pub fieldIn : ℕ → List Field → Field
+fieldIn f l = getD l f (fixed 0 0)
+
+-- how many bits stand before the field at f
+abbrev before : ℕ → List Field → ℕ
+before zero l = 0
+before (suc f) [] = 0
+before (suc f) (x ∷ l) = x .bits + before f l
+
+before-suc : (f : ℕ) (l : List Field) → before (suc f) l ≡ before f l + fieldIn f l .bits
+before-suc zero [] = refl
+before-suc zero (x ∷ l) = omega arith
+before-suc (suc f) [] = refl
+before-suc (suc f) (x ∷ l) = omega (arith, before-suc f l)
+
+before-more : (f k : ℕ) (l : List Field) → before f l ≤ before (f + k) l
+before-more zero k l = omega arith
+before-more (suc f) k [] = omega arith
+before-more (suc f) k (x ∷ l) = rw (suc-add f k) (omega (arith, before-more f k l))
+
+pub startOf : ℕ → ℕ → ℕ
+startOf f n = before f (fieldsOf n)
+
+pub endOf : ℕ → ℕ → ℕ
+endOf f n = startOf (suc f) n
+
+pub end-is : (f n : ℕ) → endOf f n ≡ startOf f n + fieldIn f (fieldsOf n) .bits
+unfolding startOf endOf
+end-is f n = before-suc f (fieldsOf n)
+
+pub next-start : (f n : ℕ) → endOf f n ≡ startOf (f + 1) n
+unfolding endOf
+next-start f n = ap (λ (k : ℕ). startOf k n) (sym (add-one f))
+
+later : (f g n : ℕ) → f ≤ g → startOf f n ≤ startOf g n
+unfolding startOf
+later f g n h =
+    let sum : f + (g - f) ≡ g = omega arith in
+    subst (λ (k : ℕ). before f (fieldsOf n) ≤ before k (fieldsOf n)) sum (before-more f (g - f) (fieldsOf n))
+
+-- where the parts start
+pub first-start : (n : ℕ) → startOf 0 n ≡ 0
+unfolding startOf
+first-start n = refl
+
+identifier-start : (n : ℕ) → startOf 1 n ≡ 1
+unfolding startOf fieldsOf
+identifier-start n = refl
+
+dlc-start : (n : ℕ) → startOf 5 n ≡ 15
+unfolding startOf fieldsOf
+dlc-start n = refl
+
+pub data-start : (n : ℕ) → startOf 6 n ≡ 19
+unfolding startOf fieldsOf
+data-start n = refl
+
+crc-start : (n : ℕ) → startOf 7 n ≡ 19 + 8 * n
+unfolding startOf fieldsOf
+crc-start n = omega arith
+
+ending-start : (n : ℕ) → startOf 8 n ≡ 34 + 8 * n
+unfolding startOf fieldsOf
+ending-start n = omega arith
+
+slot-start : (n : ℕ) → startOf 9 n ≡ 35 + 8 * n
+unfolding startOf fieldsOf
+slot-start n = omega arith
+
+pub frame-end : (n : ℕ) → startOf 12 n ≡ 44 + 8 * n
+unfolding startOf fieldsOf
+frame-end n = omega arith
+
+-- where fields end
+pub end-some : (f n : ℕ) → 0 < endOf f n
+unfolding endOf
+end-some f n = omega (arith, later 1 (suc f) n (omega arith), identifier-start n)
+
+pub header-end : (f n : ℕ) → f ≤ 5 → endOf f n ≤ 19
+unfolding endOf
+header-end f n h = omega (arith, later (suc f) 6 n (omega arith), data-start n)
+
+pub data-end : (f n : ℕ) → f ≤ 6 → endOf f n ≤ 19 + 8 * n
+unfolding endOf
+data-end f n h = omega (arith, later (suc f) 7 n (omega arith), crc-start n)
+
+pub end-within : (f n : ℕ) → f < 12 → endOf f n ≤ 44 + 8 * n
+unfolding endOf
+end-within f n h = omega (arith, later (suc f) 12 n h, frame-end n)
+
+-- header fields but the DLC, the DLC, data, CRC, and what is never stuffed
+pub data Stage (f n : ℕ) : Type 0 where
+  before-dlc : f < 5 → endOf f n ≤ 15 → Stage f n
+  dlc : f ≡ 5 → endOf f n ≡ 19 → Stage f n
+  data-bits : f ≡ 6 → startOf f n ≡ 19 → endOf f n ≡ 19 + 8 * n → Stage f n
+  crc-bits : f ≡ 7 → startOf f n ≡ 19 + 8 * n → endOf f n ≡ 34 + 8 * n → Stage f n
+  ending : 7 < f → 34 + 8 * n ≤ startOf f n → 34 + 8 * n < endOf f n → endOf f n ≤ 44 + 8 * n → Stage f n
+
+pub stage : (f n : ℕ) → f < 12 → Stage f n
+unfolding endOf
+stage f n h = first (ltb f 5) refl
+  where
+    fourth : (t : Bool) → eqb f 7 ≡ t → 7 ≤ f → Stage f n
+    fourth true e g = let i = eqb-true f 7 e in crc-bits i (ap (λ (k : ℕ). startOf k n) i ∙ crc-start n) (ap (λ (k : ℕ). startOf (suc k) n) i ∙ ending-start n)
+    fourth false e g =
+        let i = eqb-false f 7 e in
+        let over : 8 ≤ f = omega arith in
+        ending over (omega (arith, later 8 f n over, ending-start n)) (omega (arith, later 9 (suc f) n (omega arith), slot-start n)) (end-within f n h)
+
+    third : (t : Bool) → eqb f 6 ≡ t → 6 ≤ f → Stage f n
+    third true e g = let i = eqb-true f 6 e in data-bits i (ap (λ (k : ℕ). startOf k n) i ∙ data-start n) (ap (λ (k : ℕ). startOf (suc k) n) i ∙ crc-start n)
+    third false e g = let i = eqb-false f 6 e in fourth (eqb f 7) refl (omega arith)
+
+    second : (t : Bool) → eqb f 5 ≡ t → 5 ≤ f → Stage f n
+    second true e g = let i = eqb-true f 5 e in dlc i (ap (λ (k : ℕ). startOf (suc k) n) i ∙ data-start n)
+    second false e g = let i = eqb-false f 5 e in third (eqb f 6) refl (omega arith)
+
+    first : (t : Bool) → ltb f 5 ≡ t → Stage f n
+    first true e = let i = ltb-true f 5 e in before-dlc i (omega (arith, later (suc f) 5 n i, dlc-start n))
+    first false e = second (eqb f 5) refl (ltb-false f 5 e)
+
+-- the bit of a field stands at each of its positions
+form-at : (f : ℕ) (l : List Field) (i : ℕ) → i < fieldIn f l .bits → getD (form l) (before f l + i) either ≡ fieldIn f l .bit
+unfolding form
+form-at zero [] i h = absurd (omega arith)
+form-at zero (x ∷ l) i h =
+    let inside : i < length (replicate (x .bits) (x .bit)) = rw (length-replicate (x .bits) (x .bit)) h in
+    rw (zero-add, List·getD-append (replicate (x .bits) (x .bit)) (form l) either i inside) (getD-replicate (x .bits) i (x .bit) either h)
+form-at (suc f) [] i h = absurd (omega arith)
+form-at (suc f) (x ∷ l) i h =
+    let at : x .bits + before f l + i ≡ length (replicate (x .bits) (x .bit)) + (before f l + i) =
+    rw (length-replicate (x .bits) (x .bit)) (omega arith) in
+    rw (at, getD-append-add (replicate (x .bits) (x .bit)) (form l) (before f l + i) either) (form-at f l i h)
+
+-- a frame whose next bit is one of field f; the DLC is known behind the header
+module _ (f n : ℕ) (frame : List ℕ) (h : f < 12) (from : startOf f n ≤ length frame) (to : length frame < endOf f n) (known : 5 < f → dlcIn frame ≡ n) where
+  pub must-is : mustBe frame ≡ fieldIn f (fieldsOf n) .bit
+  unfolding mustBe startOf
+  must-is = same (stage f n h) ∙ at
+    where
+      p : ℕ
+      p = length frame
+
+      early : p < 19 → getD (form (fieldsOf (dlcIn frame))) p either ≡ getD (form (fieldsOf n)) p either
+      early e = must-early (dlcIn frame) p e ∙ sym (must-early n p e)
+
+      same : Stage f n → getD (form (fieldsOf (dlcIn frame))) p either ≡ getD (form (fieldsOf n)) p either
+      same (before-dlc g e) = early (omega (arith, to))
+      same (dlc g e) = early (omega (arith, to))
+      same (data-bits g s e) = ap (λ (k : ℕ). getD (form (fieldsOf k)) p either) (known (omega arith))
+      same (crc-bits g s e) = ap (λ (k : ℕ). getD (form (fieldsOf k)) p either) (known (omega arith))
+      same (ending g s o e) = ap (λ (k : ℕ). getD (form (fieldsOf k)) p either) (known (omega arith))
+
+      at : getD (form (fieldsOf n)) p either ≡ fieldIn f (fieldsOf n) .bit
+      at =
+          let sum : startOf f n + (p - startOf f n) ≡ p = omega (arith, from) in
+          subst (λ (k : ℕ). getD (form (fieldsOf n)) k either ≡ fieldIn f (fieldsOf n) .bit) sum
+          (form-at f (fieldsOf n) (p - startOf f n) (omega (arith, from, to, end-is f n)))
+
+  pub due-is : (run : Run) → stuffDue run frame ≡ dueIn f run
+  unfolding stuffDue dueIn crcStart
+  due-is run = go (stage f n h)
+    where
+      go : Stage f n → (eqb (run .count) 5 && leb (length frame) (19 + 8 * dlcIn frame + 14)) ≡ cond (ltb 7 f) false (eqb (run .count) 5)
+      go (before-dlc g e) = simp (le-ltb 7 f (omega arith), le-leb (length frame) (19 + 8 * dlcIn frame + 14) (omega (arith, to)), and-true)
+      go (dlc g e) = simp (le-ltb 7 f (omega arith), le-leb (length frame) (19 + 8 * dlcIn frame + 14) (omega (arith, to)), and-true)
+      go (data-bits g s e) = simp (le-ltb 7 f (omega arith), le-leb (length frame) (19 + 8 * dlcIn frame + 14) (omega (arith, to, known (omega arith))), and-true)
+      go (crc-bits g s e) = simp (le-ltb 7 f (omega arith), le-leb (length frame) (19 + 8 * dlcIn frame + 14) (omega (arith, to, known (omega arith))), and-true)
+      go (ending g s o e) = simp (lt-ltb 7 f g, lt-leb (length frame) (19 + 8 * dlcIn frame + 14) (omega (arith, from, known (omega arith))), and-false)
+
+  pub not-complete : complete frame ≡ false
+  unfolding complete crcStart
+  not-complete = ne-eqb (length frame) (19 + 8 * dlcIn frame + 25) (λ e. go (stage f n h) e)
+    where
+      go : Stage f n → length frame ≡ 19 + 8 * dlcIn frame + 25 → ⊥
+      go (before-dlc g e) d = omega (arith, to)
+      go (dlc g e) d = omega (arith, to)
+      go (data-bits g s e) d = omega (arith, to, known (omega arith))
+      go (crc-bits g s e) d = omega (arith, to, known (omega arith))
+      go (ending g s o e) d = omega (arith, to, known (omega arith))

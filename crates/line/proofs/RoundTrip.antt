@@ -1,0 +1,148 @@
+-- Making and reading a frame undo each other, of the definitions, whatever bit stands in the ACK slot. Assumes nothing.
+--     read-made       a made line is accepted where the payload has room, and gives identifier and payload back
+--     own-ack         the maker's own bit in the ACK slot is 1
+--     Coded           a line is that of an identifier and a payload, but for the bit in the ACK slot
+--     accepted-is-coded    whatever reading accepts is that of the identifier and the payload that it gives
+--     accepted-below  each of its bytes is 0 or 1
+--     one-line        accepted lines that give one identifier and one payload are one, but for the bit in the ACK slot
+use mathlib.Core.Path.{_≡_, refl, sym, ap, ap₂, _∙_}
+use mathlib.Core.List.{List, []}
+use Prim.Native.Nat.{ℕ, _≤_, _<_}
+use native.Mathlib.Omega.{arith}
+use lib.Dec.{lit<}
+use lib.ListN.{length}
+use Rattle.bits.specs.Below.{Below}
+use Rattle.bits.specs.Stuffing.{nothingSent}
+use Rattle.refusals.specs.declared.Answer.{Answer}
+use Rattle.refusals.specs.declared.Answer.the-variants as answer
+use Rattle.field.specs.Field.{fieldOf}
+use Rattle.field.specs.Decode.{decodeAnswer}
+use Rattle.field.proofs.Sizes.{fieldBytes-few, fieldBytes-not-one}
+use Rattle.field.proofs.FieldBits.{field-length, field-below}
+use Rattle.field.proofs.Accepted.{accepted}
+use Rattle.field.proofs.RoundTrip.{decode-encode, payload-of-field, field-of-payload}
+use Rattle.frame.specs.Line.{frameLine}
+use Rattle.frame.specs.Answers.{payloadLine}
+use Rattle.line.specs.Scan.{Scanned, whole, stopped, scanned}
+use Rattle.line.specs.Read.{identifierIn, fieldIn, withIdentifier, decoded, readAnswer, payloadIn}
+use Rattle.line.specs.Ack.{withAck}
+use Rattle.line.specs.declared.Line.the-variants.{Frame}
+use Rattle.line.proofs.OnLine.{lineFrom, sound-whole, whole-sound}
+use Rattle.line.proofs.AckSlot.{line-own, ack-again}
+use Rattle.line.proofs.LineOf.{line-of}
+use Rattle.line.proofs.Right.{Right, right-sound, sound-right}
+use Rattle.line.proofs.FrameBits.{headerBits, dataBits, frameBits, frame-start, frame-right, identifier-back, field-back}
+use Rattle.line.proofs.FrameOf.{right-frame, identifier-few, field-bytes, bytes-below}
+
+-- the line of a frame's bits
+frame-line : (identifier : ℕ) (field : List ℕ) (ack : ℕ) → length field ≤ 8
+    → lineFrom nothingSent [] (frameBits identifier field ack) ≡ withAck ack (frameLine identifier field)
+unfolding frameBits frameLine
+frame-line identifier field ack few =
+    line-of (headerBits identifier field) (dataBits identifier field) ack (sym (frame-start identifier field ack few))
+
+-- ---- made, then read
+
+pub own-ack : (identifier : ℕ) (payload : List ℕ) → withAck 1 (payloadLine identifier payload) ≡ payloadLine identifier payload
+unfolding frameLine
+own-ack identifier payload = let field = fieldOf payload in line-own (headerBits identifier field) (dataBits identifier field)
+
+frame-scanned : (identifier : ℕ) (field : List ℕ) (ack : ℕ) → length field ≤ 8 → (length field ≡ 1 → ⊥) → ack < 2
+    → scanned (withAck ack (frameLine identifier field)) ≡ whole (frameBits identifier field ack)
+unfolding scanned
+frame-scanned identifier field ack few not-one h =
+    let all = frameBits identifier field ack in
+    rw (← frame-line identifier field ack few)
+    (sound-whole nothingSent [] all 0 (right-sound [] all (frame-right identifier field ack few not-one h)))
+
+pub read-made : (identifier : ℕ) (payload : List ℕ) (ack room : ℕ)
+    → identifier ≤ 2047 → Below 256 payload → length payload ≤ 7 → length payload ≤ room → ack < 2 →
+    let line = withAck ack (payloadLine identifier payload) in
+    (readAnswer line room ≡ Frame identifier (length payload)) × (payloadIn line ≡ payload)
+unfolding readAnswer payloadIn
+read-made identifier payload ack room known bytes short fits h =
+    let field = fieldOf payload in
+    let n = field-length payload in
+    let few : length field ≤ 8 = omega (arith, fieldBytes-few (length payload) short) in
+    let scan = frame-scanned identifier field ack few (λ e. fieldBytes-not-one (length payload) (sym n ∙ e)) h in
+    let back = field-back identifier field ack (field-below payload) few in (
+      rw (scan, back, identifier-back identifier field ack (omega arith), decode-encode payload room),
+      rw (scan, back) (payload-of-field payload bytes short),
+    )
+
+-- ---- read, then made
+
+pub record Coded (line : List ℕ) (room identifier n : ℕ) : Type 0 where
+  pub known : identifier ≤ 2047
+  pub length-is : length (payloadIn line) ≡ n
+  pub short : n ≤ 7
+  pub fits : n ≤ room
+  pub bytes : Below 256 (payloadIn line)
+  pub line-is : withAck 1 line ≡ payloadLine identifier (payloadIn line)
+  pub line-below : Below 2 line
+
+right-line : (frame : List ℕ) → Right frame
+    → withAck 1 (lineFrom nothingSent [] frame) ≡ frameLine (identifierIn frame) (fieldIn frame)
+unfolding frameLine
+right-line frame right =
+    let identifier = identifierIn frame in
+    let field = fieldIn frame in
+    let few : length field ≤ 8 = omega (arith, field-bytes frame right, right .at-most) in
+    let is = right-frame frame right in
+    ap (λ (l : List ℕ). withAck 1 (lineFrom nothingSent [] l)) (is .2)
+    ∙ ap (withAck 1) (frame-line identifier field (is .0) few)
+    ∙ ack-again (headerBits identifier field) (dataBits identifier field) (is .0)
+
+pub line-scanned : (line frame : List ℕ) → scanned line ≡ whole frame
+    → Right frame × (withAck 1 line ≡ frameLine (identifierIn frame) (fieldIn frame)) × Below 2 line
+unfolding scanned
+line-scanned line frame e =
+    let taken = whole-sound nothingSent [] line frame 0 (lit< tt) e in
+    let right : Right frame = rw (taken .all-is) at (sound-right (taken .bits) (taken .sound)) in (
+      right,
+      ap (withAck 1) (taken .line-is ∙ ap (lineFrom nothingSent []) (taken .all-is)) ∙ right-line frame right,
+      taken .line-below,
+    )
+
+whole-coded : (line frame : List ℕ) (room identifier n : ℕ) → scanned line ≡ whole frame
+    → identifierIn frame ≡ identifier → decodeAnswer (fieldIn frame) room ≡ answer.Length n → Coded line room identifier n
+unfolding payloadIn
+whole-coded line frame room identifier n e is d =
+    let scan = line-scanned line frame e in
+    let field = accepted (fieldIn frame) room n d in
+    let back = field-of-payload (fieldIn frame) room n (bytes-below frame (scan .0)) d in
+    record {
+      known = omega (arith, identifier-few frame (scan .0));
+      length-is = rw e (back .1);
+      short = back .2;
+      fits = omega (arith, field .size-is, field .begun .fits);
+      bytes = rw e (back .3);
+      line-is = scan .1 ∙ ap₂ frameLine is (sym (back .0) ∙ rw e);
+      line-below = scan .2;
+    }
+
+with-identifier : (i identifier n : ℕ) (a : Answer) → withIdentifier i a ≡ Frame identifier n
+    → (i ≡ identifier) × (a ≡ answer.Length n)
+with-identifier i identifier n (answer.Length m) e = (cc, cc)
+with-identifier i identifier n (answer.Refused refusal) e = let z : _≡_ {A = ℕ} 0 1 = cc in absurd (omega arith)
+
+module _ (line : List ℕ) (room identifier n : ℕ) (e : readAnswer line room ≡ Frame identifier n) where
+  pub accepted-is-coded : Coded line room identifier n
+  unfolding readAnswer
+  accepted-is-coded = go (scanned line) refl e
+    where
+      go : (s : Scanned) → scanned line ≡ s → decoded s room ≡ Frame identifier n → Coded line room identifier n
+      go (stopped refusal) p q = let z : _≡_ {A = ℕ} 0 1 = cc in absurd (omega arith)
+      go (whole frame) p q =
+          let is = with-identifier (identifierIn frame) identifier n (decodeAnswer (fieldIn frame) room) q in
+          whole-coded line frame room identifier n p (is .0) (is .1)
+
+  pub accepted-below : Below 2 line
+  accepted-below = accepted-is-coded .line-below
+
+pub one-line : (line other : List ℕ) (room room' identifier n n' : ℕ)
+    → readAnswer line room ≡ Frame identifier n → readAnswer other room' ≡ Frame identifier n'
+    → payloadIn line ≡ payloadIn other → withAck 1 line ≡ withAck 1 other
+one-line line other room room' identifier n n' e e' same =
+    accepted-is-coded line room identifier n e .line-is ∙ ap (payloadLine identifier) same
+    ∙ sym (accepted-is-coded other room' identifier n' e' .line-is)

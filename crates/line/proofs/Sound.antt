@@ -1,0 +1,88 @@
+-- The bits with which a scan finds no fault. Assumes nothing.
+--     dlcWrong, crcWrong    the tests behind 3 and 12, of a frame's bits so far
+--     Next            a frame's bits so far may go on with this bit
+--     Sound           and with these bits, which make it complete
+--     bit-right, right-bit       where no stuff bit is due, the scan finds no fault with these bits, and with no others
+--     stuff-right, right-stuff   where one is due, it finds none with the other bit than the run's
+--     due-no-more     in a complete frame no stuff bit is due
+use mathlib.Core.Path.{_≡_, refl, sym, _∙_}
+use mathlib.Core.Bool.{Bool, true, false, cond, not, _&&_, and-false}
+use mathlib.Core.List.{List, [], _∷_, _++_}
+use Prim.Native.Nat.{ℕ, _+_, _-_, _<_}
+use native.Mathlib.Omega.{arith}
+use lib.Dec.{eqb, ltb}
+use lib.ListN.{length}
+use borrow.Author.Tests.{ltb-false, le-ltb, eqb-true, eqb-false, ne-eqb, lt-leb}
+use Rattle.bits.specs.declared.Run.{Run}
+use Rattle.refusals.specs.declared.Refusal.{Refusal}
+use Rattle.frame.specs.Line.{stuffedCrcBits}
+use Rattle.line.specs.Scan.{crcStart, complete, stuffDue, mustBe, dlcRefused, crcRight, shown, Verdict, right, wrong, verdict}
+
+abbrev pub dlcWrong : List ℕ → Bool
+dlcWrong frame = eqb (length frame) 19 && dlcRefused frame
+
+abbrev pub crcWrong : List ℕ → Bool
+crcWrong frame = eqb (length frame) (crcStart frame + 15) && not (crcRight frame)
+
+pub record Next (frame : List ℕ) (bit : ℕ) : Type 0 where
+  pub below : bit < 2
+  pub more : complete frame ≡ false
+  pub fits : eqb (mustBe frame) (1 - bit) ≡ false
+  pub dlc : dlcWrong (frame ++ (bit ∷ [])) ≡ false
+  pub check : crcWrong (frame ++ (bit ∷ [])) ≡ false
+
+abbrev pub Sound : List ℕ → List ℕ → Type 0
+Sound frame [] = complete frame ≡ true
+Sound frame (b ∷ l) = Next frame b × Sound (frame ++ (b ∷ [])) l
+
+passed : (t : Bool) (refusal : Refusal) (v : Verdict) → cond t (wrong refusal) v ≡ right → (t ≡ false) × (v ≡ right)
+passed true refusal v e = let z : _≡_ {A = ℕ} 0 1 = cc in absurd (omega arith)
+passed false refusal v e = (refl, e)
+
+module _ (run : Run) (frame : List ℕ) (place bit : ℕ) where
+  pub bit-right : stuffDue run frame ≡ false → verdict run frame place bit ≡ right → Next frame bit
+  unfolding verdict shown
+  bit-right due e =
+      let more = passed (complete frame) _ _ e in
+      let low = passed (ltb 1 bit) _ _ (more .1) in
+      let fits = passed (eqb (mustBe frame) (1 - bit)) _ _ (rw due at (low .1)) in
+      let dlc = passed (dlcWrong (frame ++ (bit ∷ []))) _ _ (fits .1) in
+      record {
+        below = omega (arith, ltb-false 1 bit (low .0));
+        more = more .0;
+        fits = fits .0;
+        dlc = dlc .0;
+        check = passed (crcWrong (frame ++ (bit ∷ []))) _ _ (dlc .1) .0;
+      }
+
+  pub right-bit : stuffDue run frame ≡ false → Next frame bit → verdict run frame place bit ≡ right
+  unfolding verdict shown
+  right-bit due next = simp (next .more, le-ltb 1 bit (omega arith), due, next .fits, next .dlc, next .check)
+
+  pub stuff-right : stuffDue run frame ≡ true → verdict run frame place bit ≡ right → (bit < 2) × (bit ≡ run .bit → ⊥)
+  unfolding verdict
+  stuff-right due e =
+      let low = passed (ltb 1 bit) _ _ (passed (complete frame) _ _ e .1) in
+      let other = passed (eqb bit (run .bit)) _ _ (rw due at (low .1)) in
+      (omega (arith, ltb-false 1 bit (low .0)), eqb-false bit (run .bit) (other .0))
+
+module _ (run : Run) (frame : List ℕ) where
+  pub due-no-more : complete frame ≡ true → stuffDue run frame ≡ false
+  unfolding complete stuffDue
+  due-no-more e =
+      let last = crcStart frame + stuffedCrcBits in
+      let past : last < length frame = omega (arith, eqb-true (length frame) (crcStart frame + 25) e) in
+      rw (lt-leb (length frame) last past) (and-false (eqb (run .count) 5))
+
+  due-more : stuffDue run frame ≡ true → complete frame ≡ false
+  due-more due = go (complete frame) refl
+    where
+      go : (t : Bool) → complete frame ≡ t → t ≡ false
+      go true e = sym due ∙ due-no-more e
+      go false e = refl
+
+  pub right-stuff : (place : ℕ) → stuffDue run frame ≡ true → verdict run frame place (1 - run .bit) ≡ right
+  unfolding verdict
+  right-stuff place due =
+      let bit = 1 - run .bit in
+      simp (due-more due, le-ltb 1 bit (omega arith), due, ne-eqb bit (run .bit) (λ e. omega arith))

@@ -1,0 +1,12 @@
+-- `line::field_end::data` meets its contract. Assumes nothing.
+use mathlib.Core.Path.{refl}
+use Rattle.line.specs.Steps.{fieldRead}
+use Rattle.line.proofs.field_end.data.Statement.{statement}
+use Rattle.line.proofs.field_end.data.Tie as tie
+
+returns : tie.Need-returns
+unfolding fieldRead
+returns c = refl
+
+pub data-spec : {M : Type 1} → statement M
+data-spec = tie.close (tie.spec returns)

@@ -1,0 +1,69 @@
+// The fields of a frame, as rows of data.
+ghost use mathlib.Core.Path.{_≡_};
+ghost use Rattle.line.specs.Fields.{fieldsOf};
+ghost use Rattle.line.specs.Steps.{width};
+
+// A field of a frame.
+pub(crate) struct Field {
+    // How many bits it has; of the data bits, which the DLC counts, 0.
+    pub bits: usize,
+    // The bit that each of them must be; 2 where either may stand.
+    pub bit: u8,
+}
+
+// Which row is whose, where more than its bits is looked at.
+pub(crate) const DLC: usize = 5;
+
+pub(crate) const DATA: usize = 6;
+
+pub(crate) const CRC: usize = 7;
+
+const EITHER: u8 = 2;
+
+const FIELDS: [Field; 12] = [
+    Field { bits: 1, bit: 0 }, // start of frame
+    Field {
+        bits: 11,
+        bit: EITHER,
+    }, // identifier
+    Field { bits: 1, bit: 0 }, // RTR
+    Field { bits: 1, bit: 0 }, // IDE
+    Field { bits: 1, bit: 0 }, // reserved bit
+    Field {
+        bits: 4,
+        bit: EITHER,
+    }, // DLC
+    Field {
+        bits: 0,
+        bit: EITHER,
+    }, // data
+    Field {
+        bits: 15,
+        bit: EITHER,
+    }, // CRC
+    Field { bits: 1, bit: 1 }, // CRC delimiter
+    Field {
+        bits: 1,
+        bit: EITHER,
+    }, // ACK slot
+    Field { bits: 1, bit: 1 }, // ACK delimiter
+    Field { bits: 7, bit: 1 }, // end bits
+];
+
+// The fields in the order they are sent.
+pub(crate) fn all() -> [Field; 12]
+    ensures { λ r. ⌜ r ≡ fieldsOf 0 ⌝ }
+{
+    FIELDS
+}
+
+// How many bits a field has: the data field as many as the DLC says, at the end of the header; another what the table says.
+pub(crate) fn width(field: usize, bits: usize, header: u64) -> usize
+    ensures { λ r. ⌜ r ≡ width field bits header ⌝ }
+{
+    if field == DATA {
+        8 * ((header % 16) as usize)
+    } else {
+        bits
+    }
+}
