@@ -1,9 +1,8 @@
 -- From field to field. Assumes nothing.
---     width-is        the number of a field's bits that the code finds is that of the frame's field, and so is the bit that must stand
---     bit-is
+--     width-is, bit-is    what the code finds of a field, how many bits it has and which must stand there
 --     line-begins     before the first field
 --     field-begins    into a field
---     field-ends      behind its last bit: to the next one, or the line is refused as the definition says
+--     Ends, field-ends    behind its last bit: to the next one, or the line is refused as the definition says
 --     line-longer     behind the last field: the line goes on,
 --     line-read       or it is read
 use mathlib.Core.Path.{_≡_, refl, sym, ap, _∙_, subst}
@@ -29,7 +28,7 @@ use Rattle.line.specs.declared.seen.Seen.{Seen}
 use Rattle.line.specs.declared.seen.Step.{Step}
 use Rattle.line.specs.declared.seen.Step.the-variants.{Next, Refused}
 use Rattle.line.proofs.Positions.{fieldIn, startOf, endOf, end-is, next-start, Stage, before-dlc, dlc, data-bits, crc-bits, ending, stage, first-start, data-start, frame-end}
-use Rattle.line.proofs.Registers.{Registers, in-header, in-data, behind, dlc-known, dlc-read, header-put, field-put, crc-there, identifier-there, field-there}
+use Rattle.line.proofs.Registers.{Fine, Registers, in-header, in-data, behind, dlc-known, dlc-read, header-put, field-put, crc-there, identifier-there, field-there}
 use Rattle.line.proofs.Verdicts.{bit-too-many, dlc-taken, taken-dlc, length-refused, crc-refused, nothing-shown}
 use Rattle.line.proofs.Keeping.{bytes, rest, pending, Between, Within}
 
@@ -55,10 +54,10 @@ bit-is f n = go (eqb f 6) refl
     go false e = sym (ap (λ (x : Field). x .bit) (other-field f n (eqb-false f 6 e)))
 
 -- behind a field other than DLC and CRC the frame shows nothing
-nothing-behind : (line : List ℕ) (f header field n : ℕ) (frame : List ℕ) (place : ℕ) → f < 12 → (f ≡ 5 → ⊥) → (f ≡ 7 → ⊥)
+nothing-behind : (f header field n : ℕ) (frame : List ℕ) (place : ℕ) → f < 12 → (f ≡ 5 → ⊥) → (f ≡ 7 → ⊥)
     → length frame ≡ endOf f (header % 16) → Registers f header field n frame → shown frame place ≡ right
 unfolding crcStart
-nothing-behind line f header field n frame place h not-dlc not-crc at registers = go (stage f (header % 16) h) registers
+nothing-behind f header field n frame place h not-dlc not-crc at registers = go (stage f (header % 16) h) registers
   where
     known : 5 < f → dlcIn frame ≡ header % 16
     known = dlc-known f header field n frame registers
@@ -68,7 +67,9 @@ nothing-behind line f header field n frame place h not-dlc not-crc at registers 
     go (dlc g e) r = absurd (not-dlc g)
     go (data-bits g s e) (in-header i d l) = absurd (omega arith)
     go (data-bits g s e) (in-data k i fine d l) =
-        nothing-shown frame place (λ d. dlc-taken frame (λ one. fine .not-one (sym (known (omega arith)) ∙ one)) (omega (arith, fine .few, known (omega arith)))) (λ d. absurd (omega (arith, at, known (omega arith))))
+        let is = known (omega arith) in
+        nothing-shown frame place (λ d. dlc-taken frame (λ one. fine .not-one (sym is ∙ one)) (omega (arith, fine .few, is)))
+        (λ d. absurd (omega (arith, at, is)))
     go (data-bits g s e) (behind k i fine d l) = absurd (omega arith)
     go (crc-bits g s e) r = absurd (not-crc g)
     go (ending g s o e) r = nothing-shown frame place (λ d. absurd (omega (arith, at))) (λ d. absurd (omega (arith, at, known (omega arith))))
@@ -78,8 +79,8 @@ abbrev pub begun : Seen → ℕ → Seen
 begun seen count =
     record { place = seen .place; run = seen .run; left = count; number = seen .number; header = seen .header; field = seen .field }
 
-pub field-begins : (line : List ℕ) (f : ℕ) (seen : Seen) (frame : List ℕ) (count : ℕ) → f < 12 → count ≡ fieldIn f (fieldsOf (bytes seen)) .bits
-    → Between line f seen frame → Within line f (begun seen count) frame
+pub field-begins : (line : List ℕ) (f : ℕ) (seen : Seen) (frame : List ℕ) (count : ℕ)
+    → f < 12 → count ≡ fieldIn f (fieldsOf (bytes seen)) .bits → Between line f seen frame → Within line f (begun seen count) frame
 unfolding fieldsOf
 field-begins line f seen frame count h e b =
     record {
@@ -95,11 +96,13 @@ field-begins line f seen frame count h e b =
     end = omega (arith, b .at-is, e, end-is f (bytes seen))
 
     some : (k : ℕ) → 0 < fieldIn k (fieldsOf (bytes seen)) .bits → count ≡ 0 → f ≡ k → ⊥
-    some k p z i = let same : fieldIn f (fieldsOf (bytes seen)) .bits ≡ fieldIn k (fieldsOf (bytes seen)) .bits = rw i refl in omega (arith, e, same)
+    some k p z i =
+        let same : fieldIn f (fieldsOf (bytes seen)) .bits ≡ fieldIn k (fieldsOf (bytes seen)) .bits = rw i refl in
+        omega (arith, e, same)
 
     nothing : (k : ℕ) → count ≡ k → pending k frame (seen .place) ≡ right
     nothing zero d =
-        nothing-behind line f (seen .header) (seen .field) (seen .number) frame (seen .place - 1) h (some 5 (lit< tt) d) (some 7 (lit< tt) d)
+        nothing-behind f (seen .header) (seen .field) (seen .number) frame (seen .place - 1) h (some 5 (lit< tt) d) (some 7 (lit< tt) d)
         (omega (arith, end)) (b .registers)
     nothing (suc k) d = refl
 
@@ -118,7 +121,8 @@ line-begins line =
 -- ---- behind a field's last bit
 
 -- the registers do not change where no part ends
-passed-on : (f header field n : ℕ) (frame : List ℕ) → (f ≡ 5 → ⊥) → (f ≡ 6 → ⊥) → Registers f header field n frame → Registers (f + 1) header field n frame
+passed-on : (f header field n : ℕ) (frame : List ℕ) → (f ≡ 5 → ⊥) → (f ≡ 6 → ⊥) → Registers f header field n frame
+    → Registers (f + 1) header field n frame
 passed-on f header field n frame not-dlc not-data (in-header g e l) = in-header (omega (arith, not-dlc)) e l
 passed-on f header field n frame not-dlc not-data (in-data k g fine e l) = absurd (not-data g)
 passed-on f header field n frame not-dlc not-data (behind k g fine e l) = behind k (omega arith) fine e l
@@ -137,10 +141,14 @@ module _ (line : List ℕ) (f : ℕ) (seen : Seen) (frame : List ℕ) (h : f < 1
       w .leads ∙ ap (λ (k : ℕ). onward (pending k frame (seen .place)) (rest line seen frame)) z
       ∙ ap (λ (u : Verdict). onward u (rest line seen frame)) e
 
+  nothing-here : (f ≡ 5 → ⊥) → (f ≡ 7 → ⊥) → shown frame (seen .place - 1) ≡ right
+  nothing-here not-dlc not-crc =
+      nothing-behind f (seen .header) (seen .field) (seen .number) frame (seen .place - 1) h not-dlc not-crc at (w .registers)
+
   other-ends : (f ≡ 5 → ⊥) → (f ≡ 6 → ⊥) → (f ≡ 7 → ⊥) → Ends line f frame (fieldEnd f seen)
   unfolding fieldEnd
   other-ends not-dlc not-data not-crc = rw (ne-eqb f 5 not-dlc, ne-eqb f 6 not-data, ne-eqb f 7 not-crc) (record {
-    leads = leads right (nothing-behind line f (seen .header) (seen .field) (seen .number) frame (seen .place - 1) h not-dlc not-crc at (w .registers));
+    leads = leads right (nothing-here not-dlc not-crc);
     at-is = at ∙ next-start f (bytes seen);
     registers = passed-on f (seen .header) (seen .field) (seen .number) frame not-dlc not-data (w .registers);
     few = w .few;
@@ -175,13 +183,14 @@ module _ (line : List ℕ) (f : ℕ) (seen : Seen) (frame : List ℕ) (h : f < 1
           go true d = leads _ (length-refused frame (seen .place - 1) nineteen (rw there d))
           go false d =
               let taken = taken-dlc frame (rw there d) in
+              let fine : Fine n = record { not-one = λ one. taken .0 (there ∙ one); few = omega (arith, taken .1, there) } in
               let next : f + 1 ≡ 6 = omega arith in
               record {
                 leads = leads right (nothing-shown frame (seen .place - 1) (λ x. rw there d) (λ x. absurd (omega (arith, nineteen))));
                 at-is = nineteen ∙ sym (ap (λ (k : ℕ). startOf k (n % 16)) next ∙ data-start (n % 16));
                 registers =
                     subst (λ (k : ℕ). Registers k n (seen .field) 0 frame) (sym next)
-                    (header-put (seen .field) n frame nineteen (record { not-one = λ one. taken .0 (there ∙ one); few = omega (arith, taken .1, there) }) e);
+                    (header-put (seen .field) n frame nineteen fine e);
                 few = omega (arith, nineteen, w .few);
                 behind = w .behind;
               }
@@ -201,7 +210,7 @@ module _ (line : List ℕ) (f : ℕ) (seen : Seen) (frame : List ℕ) (h : f < 1
           record {
             leads =
                 leads right
-                (nothing-behind line f (seen .header) (seen .field) (seen .number) frame (seen .place - 1) h (λ d. omega arith) (λ d. omega arith) at (w .registers));
+                (nothing-here (λ d. omega arith) (λ d. omega arith));
             at-is = at ∙ next-start f (bytes seen);
             registers =
                 subst (λ (k : ℕ). Registers k (seen .header) (seen .number) 0 frame) (sym next)
@@ -275,6 +284,5 @@ module _ (line : List ℕ) (seen : Seen) (frame : List ℕ) (b : Between line 12
       holds (behind k g fine e l) =
           record {
             identifier-is = sym (ap identifierIn e ∙ identifier-there (seen .header) _);
-            dlc-is = sym known;
             field-is = field-there (seen .header) (seen .field) _ frame e;
           }

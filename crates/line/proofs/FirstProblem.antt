@@ -1,7 +1,6 @@
 -- The first problem met is the answer: what stands to its right is not looked at. Of the scan. Assumes nothing.
---     stopped-stays    a line that is refused at one of its bits is refused so whatever follows that bit
---     stopped-inside   every refusal but 11 is given at one of the line's bits; 11 also at the line's end
---     stopped-so       no other refusals come from bits than 3 and 9 to 13
+--     OfBits, Stops, stopped-at    a line is refused with 3 or 9 to 13, at one of its bits, or with 11 at its end
+--     stopped-stays    where it is one of its bits, it is refused so whatever follows that bit
 --     cut-short        a line that is read, cut anywhere, is refused with 11 at its length
 --     made-longer      and with bits added, with 11 at the first of them
 use mathlib.Core.Path.{_≡_, refl, sym, ap, _∙_, subst}
@@ -56,50 +55,78 @@ never e = let z : _≡_ {A = ℕ} 0 1 = cc in absurd (omega arith)
 stopped-only : {x y : Refusal} → stopped x ≡ stopped y → x ≡ y
 stopped-only e = cc
 
--- where a scan stops
-end-at : (frame : List ℕ) (place : ℕ) (refusal : Refusal) (t : Bool) → cond t (whole frame) (stopped (LineLength place)) ≡ stopped refusal
-    → LineLength place ≡ refusal
-end-at frame place refusal true e = never e
-end-at frame place refusal false e = stopped-only e
+-- the rest of a line behind a bit that is right
+abbrev behind : Run → List ℕ → ℕ → ℕ → List ℕ → Scanned
+behind run frame place bit line = scan (runWith run bit) (frameWith run frame bit) (place + 1) line
 
-stops-behind : (run : Run) (frame : List ℕ) (place : ℕ) (line : List ℕ) (refusal : Refusal) → scan run frame place line ≡ stopped refusal → place ≤ placeOf refusal
+-- ---- where a scan stops
+
+-- not before the place that it starts from; at one of the line's bits, or at its end; with no other refusals than those
+pub record Stops (place : ℕ) (line : List ℕ) (refusal : Refusal) : Type 0 where
+  pub from : place ≤ placeOf refusal
+  pub inside : (placeOf refusal < place + length line) ⊎ (refusal ≡ LineLength (place + length line))
+  pub own : OfBits refusal
+
+end-stops : (frame : List ℕ) (place : ℕ) (refusal : Refusal) (t : Bool)
+    → cond t (whole frame) (stopped (LineLength place)) ≡ stopped refusal → Stops place [] refusal
+end-stops frame place refusal true e = never e
+end-stops frame place refusal false e =
+    let here : Stops place [] (LineLength place) =
+    record { from = omega arith; inside = inr (ap LineLength (omega arith)); own = inr (lit< tt) } in
+    subst (Stops place []) (stopped-only e) here
+
+bit-stops : (place bit : ℕ) (line : List ℕ) (refusal : Refusal) (v : Verdict) (next : Scanned)
+    → At place v → onward v next ≡ stopped refusal → (next ≡ stopped refusal → Stops (place + 1) line refusal) → Stops place (bit ∷ line) refusal
+bit-stops place bit line refusal right next a e later =
+    let stops = later e in
+    let count : place + 1 + length line ≡ place + suc (length line) = omega arith in
+    record { from = omega (arith, stops .from); inside = rw count at (stops .inside); own = stops .own }
+bit-stops place bit line refusal (wrong r) next a e later =
+    let same = stopped-only e in
+    let at : placeOf refusal ≡ place = sym (ap placeOf same) ∙ a .0 in
+    record { from = omega (arith, at); inside = inl (omega (arith, at)); own = subst OfBits same (a .1) }
+
+stops : (run : Run) (frame : List ℕ) (place : ℕ) (line : List ℕ) (refusal : Refusal) → scan run frame place line ≡ stopped refusal
+    → Stops place line refusal
 unfolding scan
-stops-behind run frame place [] refusal e = subst (λ (r : Refusal). place ≤ placeOf r) (end-at frame place refusal (complete frame) e) (omega arith)
-stops-behind run frame place (bit ∷ line) refusal e =
-    go (verdict run frame place bit) (verdict-at run frame place bit) e (stops-behind (runWith run bit) (frameWith run frame bit) (place + 1) line refusal)
-  where
-    next : Scanned
-    next = scan (runWith run bit) (frameWith run frame bit) (place + 1) line
+stops run frame place [] refusal e = end-stops frame place refusal (complete frame) e
+stops run frame place (bit ∷ line) refusal e =
+    bit-stops place bit line refusal (verdict run frame place bit) (behind run frame place bit line) (verdict-at run frame place bit) e
+    (stops (runWith run bit) (frameWith run frame bit) (place + 1) line refusal)
 
-    go : (v : Verdict) → At place v → onward v next ≡ stopped refusal → (next ≡ stopped refusal → place + 1 ≤ placeOf refusal) → place ≤ placeOf refusal
-    go right a d later = omega (arith, later d)
-    go (wrong r) a d later = omega (arith, a .0, ap placeOf (stopped-only d))
+pub stopped-at : (line : List ℕ) (refusal : Refusal) → scanned line ≡ stopped refusal → Stops 0 line refusal
+unfolding scanned
+stopped-at line refusal e = stops nothingSent [] 0 line refusal e
 
--- bits to the right of the problem may be others
+-- ---- bits to the right of the problem may be others
+
 stays : (run : Run) (frame : List ℕ) (place : ℕ) (line line′ : List ℕ) (refusal : Refusal) → scan run frame place line ≡ stopped refusal
     → placeOf refusal < place + length line → take (suc (placeOf refusal - place)) line ≡ take (suc (placeOf refusal - place)) line′
     → scan run frame place line′ ≡ stopped refusal
 unfolding scan
-stays run frame place [] line′ refusal e h same = absurd (omega (arith, h, stops-behind run frame place [] refusal e))
+stays run frame place [] line′ refusal e h same = absurd (omega (arith, h, stops run frame place [] refusal e .from))
 stays run frame place (bit ∷ line) [] refusal e h same = let z : _≡_ {A = ℕ} 0 1 = cc in absurd (omega arith)
 stays run frame place (bit ∷ line) (bit′ ∷ line′) refusal e h same =
     let first : bit ≡ bit′ = cc in
     let others : take (placeOf refusal - place) line ≡ take (placeOf refusal - place) line′ = cc in
-    subst (λ (b : ℕ). onward (verdict run frame place b) (scan (runWith run b) (frameWith run frame b) (place + 1) line′) ≡ stopped refusal) first
+    subst (λ (b : ℕ). onward (verdict run frame place b) (behind run frame place b line′) ≡ stopped refusal) first
     (go (verdict run frame place bit) e others (stays (runWith run bit) (frameWith run frame bit) (place + 1) line line′ refusal)
-    (stops-behind (runWith run bit) (frameWith run frame bit) (place + 1) line refusal))
+    (stops (runWith run bit) (frameWith run frame bit) (place + 1) line refusal))
   where
-    next : List ℕ → Scanned
-    next l = scan (runWith run bit) (frameWith run frame bit) (place + 1) l
+    p : ℕ
+    p = placeOf refusal
 
-    go : (v : Verdict) → onward v (next line) ≡ stopped refusal → take (placeOf refusal - place) line ≡ take (placeOf refusal - place) line′
-        → (next line ≡ stopped refusal → placeOf refusal < place + 1 + length line
-        → take (suc (placeOf refusal - (place + 1))) line ≡ take (suc (placeOf refusal - (place + 1))) line′ → next line′ ≡ stopped refusal)
-        → (next line ≡ stopped refusal → place + 1 ≤ placeOf refusal) → onward v (next line′) ≡ stopped refusal
-    go right d others later behind =
-        let one : suc (placeOf refusal - (place + 1)) ≡ placeOf refusal - place = omega (arith, behind d) in
+    next : List ℕ → Scanned
+    next l = behind run frame place bit l
+
+    go : (v : Verdict) → onward v (next line) ≡ stopped refusal → take (p - place) line ≡ take (p - place) line′
+        → (next line ≡ stopped refusal → p < place + 1 + length line
+        → take (suc (p - (place + 1))) line ≡ take (suc (p - (place + 1))) line′ → next line′ ≡ stopped refusal)
+        → (next line ≡ stopped refusal → Stops (place + 1) line refusal) → onward v (next line′) ≡ stopped refusal
+    go right d others later after =
+        let one : suc (p - (place + 1)) ≡ p - place = omega (arith, after d .from) in
         later d (omega (arith, h)) (rw one others)
-    go (wrong r) d others later behind = d
+    go (wrong r) d others later after = d
 
 pub stopped-stays : (line line′ : List ℕ) (refusal : Refusal) → scanned line ≡ stopped refusal → placeOf refusal < length line
     → take (placeOf refusal + 1) line ≡ take (placeOf refusal + 1) line′ → scanned line′ ≡ stopped refusal
@@ -108,61 +135,18 @@ stopped-stays line line′ refusal e h same =
     let count : placeOf refusal + 1 ≡ suc (placeOf refusal - 0) = omega arith in
     stays nothingSent [] 0 line line′ refusal e (omega (arith, h)) (rw count at same)
 
--- at one of the line's bits, or at its end
-stops-inside : (run : Run) (frame : List ℕ) (place : ℕ) (line : List ℕ) (refusal : Refusal) → scan run frame place line ≡ stopped refusal
-    → (placeOf refusal < place + length line) ⊎ (refusal ≡ LineLength (place + length line))
-unfolding scan
-stops-inside run frame place [] refusal e = inr (sym (end-at frame place refusal (complete frame) e) ∙ ap LineLength (omega arith))
-stops-inside run frame place (bit ∷ line) refusal e =
-    go (verdict run frame place bit) (verdict-at run frame place bit) e (stops-inside (runWith run bit) (frameWith run frame bit) (place + 1) line refusal)
-  where
-    next : Scanned
-    next = scan (runWith run bit) (frameWith run frame bit) (place + 1) line
-
-    count : place + 1 + length line ≡ place + suc (length line)
-    count = omega arith
-
-    go : (v : Verdict) → At place v → onward v next ≡ stopped refusal
-        → (next ≡ stopped refusal → (placeOf refusal < place + 1 + length line) ⊎ (refusal ≡ LineLength (place + 1 + length line)))
-        → (placeOf refusal < place + suc (length line)) ⊎ (refusal ≡ LineLength (place + suc (length line)))
-    go right a d later = rw count at (later d)
-    go (wrong r) a d later = inl (omega (arith, a .0, ap placeOf (stopped-only d)))
-
-pub stopped-inside : (line : List ℕ) (refusal : Refusal) → scanned line ≡ stopped refusal
-    → (placeOf refusal < length line) ⊎ (refusal ≡ LineLength (length line))
-unfolding scanned
-stopped-inside line refusal e = let count : 0 + length line ≡ length line = omega arith in rw count at (stops-inside nothingSent [] 0 line refusal e)
-
--- no other refusals than those
-stops-so : (run : Run) (frame : List ℕ) (place : ℕ) (line : List ℕ) (refusal : Refusal) → scan run frame place line ≡ stopped refusal → OfBits refusal
-unfolding scan
-stops-so run frame place [] refusal e = subst OfBits (end-at frame place refusal (complete frame) e) (inr (lit< tt))
-stops-so run frame place (bit ∷ line) refusal e =
-    go (verdict run frame place bit) (verdict-at run frame place bit) e (stops-so (runWith run bit) (frameWith run frame bit) (place + 1) line refusal)
-  where
-    next : Scanned
-    next = scan (runWith run bit) (frameWith run frame bit) (place + 1) line
-
-    go : (v : Verdict) → At place v → onward v next ≡ stopped refusal → (next ≡ stopped refusal → OfBits refusal) → OfBits refusal
-    go right a d later = later d
-    go (wrong r) a d later = subst OfBits (stopped-only d) (a .1)
-
-pub stopped-so : (line : List ℕ) (refusal : Refusal) → scanned line ≡ stopped refusal → OfBits refusal
-unfolding scanned
-stopped-so line refusal e = stops-so nothingSent [] 0 line refusal e
-
 -- ---- a line that is read
 
 -- its first bit comes before the frame's end and is right, and the rest is read
 read-on : (run : Run) (frame : List ℕ) (place bit : ℕ) (line f : List ℕ) → scan run frame place (bit ∷ line) ≡ whole f
-    → (complete frame ≡ false) × (verdict run frame place bit ≡ right) × (scan (runWith run bit) (frameWith run frame bit) (place + 1) line ≡ whole f)
+    → (complete frame ≡ false) × (verdict run frame place bit ≡ right) × (behind run frame place bit line ≡ whole f)
 unfolding scan
 read-on run frame place bit line f e =
     let r = go (verdict run frame place bit) e in
     (begun (complete frame) refl, r .0, r .1)
   where
     next : Scanned
-    next = scan (runWith run bit) (frameWith run frame bit) (place + 1) line
+    next = behind run frame place bit line
 
     go : (v : Verdict) → onward v next ≡ whole f → (v ≡ right) × (next ≡ whole f)
     go right d = (refl, d)
@@ -176,7 +160,8 @@ cut : (run : Run) (frame : List ℕ) (place k : ℕ) (line f : List ℕ) → sca
     → scan run frame place (take k line) ≡ stopped (LineLength (place + k))
 unfolding scan
 cut run frame place k [] f e h = absurd (omega arith)
-cut run frame place zero (bit ∷ line) f e h = rw (read-on run frame place bit line f e .0) (ap (λ (p : ℕ). stopped (LineLength p)) (omega arith))
+cut run frame place zero (bit ∷ line) f e h =
+    rw (read-on run frame place bit line f e .0) (ap (λ (p : ℕ). stopped (LineLength p)) (omega arith))
 cut run frame place (suc k) (bit ∷ line) f e h =
     let r = read-on run frame place bit line f e in
     rw (r .1) (cut (runWith run bit) (frameWith run frame bit) (place + 1) k line f (r .2) (omega arith)
@@ -196,11 +181,13 @@ longer run frame place (x ∷ line) f bit more e =
     rw (r .1) (longer (runWith run x) (frameWith run frame x) (place + 1) line f bit more (r .2)
     ∙ ap (λ (p : ℕ). stopped (LineLength p)) (omega arith))
 
-pub cut-short : (line frame : List ℕ) (k : ℕ) → scanned line ≡ whole frame → k < length line → scanned (take k line) ≡ stopped (LineLength k)
+pub cut-short : (line frame : List ℕ) (k : ℕ) → scanned line ≡ whole frame → k < length line
+    → scanned (take k line) ≡ stopped (LineLength k)
 unfolding scanned
 cut-short line frame k e h = cut nothingSent [] 0 k line frame e h ∙ ap (λ (p : ℕ). stopped (LineLength p)) (omega arith)
 
 pub made-longer : (line frame : List ℕ) (bit : ℕ) (more : List ℕ) → scanned line ≡ whole frame
     → scanned (line ++ (bit ∷ more)) ≡ stopped (LineLength (length line))
 unfolding scanned
-made-longer line frame bit more e = longer nothingSent [] 0 line frame bit more e ∙ ap (λ (p : ℕ). stopped (LineLength p)) (omega arith)
+made-longer line frame bit more e =
+    longer nothingSent [] 0 line frame bit more e ∙ ap (λ (p : ℕ). stopped (LineLength p)) (omega arith)

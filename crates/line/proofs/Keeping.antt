@@ -1,11 +1,12 @@
 -- While a line is read, what is left of it leads where the whole leads, and the registers hold the frame's bits. Assumes nothing.
 --     Between, Within    before a field, and in it; behind its last bit what the frame shows is still to be looked at
---     field-begins       from the one to the other
---     bit-goes           a bit of the line: it is right, or the line is refused as the definition says
---     number-small       the number of a part leaves room for one more bit
+--     Goes, bit-goes     a bit of the line: it is right, or the line is refused as the definition says
+--     must-stand         the bit that must stand next
+--     number-small, few-enough    the number of a part and the count of the run leave room for one more bit
 use mathlib.Core.Path.{_≡_, refl, sym, ap, _∙_}
 use mathlib.Core.Bool.{Bool, true, false, cond}
 use mathlib.Core.List.{List, [], _∷_, _++_}
+use mathlib.Core.Logic.{_⊎_, inl, inr}
 use Prim.Native.Nat.{ℕ, zero, suc, _+_, _-_, _*_, _%_, _^_, _≤_, _<_}
 use native.Mathlib.Nat.{lt-of-lt-of-le}
 use native.Mathlib.Omega.{arith}
@@ -23,7 +24,7 @@ use Rattle.line.specs.Steps.{behindStuffBit, behindBit, dueIn, stuffBit,
 use Rattle.line.specs.declared.seen.Seen.{Seen}
 use Rattle.line.specs.declared.seen.Step.{Step}
 use Rattle.line.specs.declared.seen.Step.the-variants.{Next, Refused}
-use Rattle.line.proofs.Positions.{fieldIn, startOf, endOf, Stage, before-dlc, dlc, data-bits, crc-bits, ending, stage, header-end, data-end, end-within, must-is, due-is, not-complete}
+use Rattle.line.proofs.Positions.{fieldIn, startOf, endOf, data-from, ending-from, header-end, data-end, crc-end, end-within, early-or-known, must-is, due-is, not-complete}
 use Rattle.line.proofs.Registers.{Registers, in-header, in-data, behind, bit-added, longer, data-length, behind-length, dlc-known}
 use Rattle.line.proofs.Verdicts.{byte-above-1, sixth-bit, stuff-bit, fixed-bit, frame-bit, nothing-shown}
 
@@ -40,7 +41,7 @@ abbrev pub pending : ℕ → List ℕ → ℕ → Verdict
 pending zero frame place = shown frame (place - 1)
 pending (suc left) frame place = right
 
-pub pending-none : (left : ℕ) (frame : List ℕ) (place : ℕ) → 0 < left → pending left frame place ≡ right
+pending-none : (left : ℕ) (frame : List ℕ) (place : ℕ) → 0 < left → pending left frame place ≡ right
 pending-none zero frame place h = absurd (omega arith)
 pending-none (suc left) frame place h = refl
 
@@ -64,24 +65,21 @@ pub record Within (line : List ℕ) (f : ℕ) (seen : Seen) (frame : List ℕ) :
   pub behind : length frame ≤ seen .place
 
 -- in a field, behind its first bit and before its last, nothing is shown
-shown-inside : (f n : ℕ) (frame : List ℕ) (place : ℕ) → f < 12 → startOf f n < length frame → length frame < endOf f n
+shown-inside : (f n : ℕ) (frame : List ℕ) (place : ℕ) → startOf f n < length frame → length frame < endOf f n
     → (5 < f → dlcIn frame ≡ n) → shown frame place ≡ right
 unfolding crcStart
-shown-inside f n frame place h from to known = nothing-shown frame place (λ e. absurd (header e (stage f n h))) (λ e. absurd (check e (stage f n h)))
+shown-inside f n frame place from to known =
+    nothing-shown frame place (λ e. absurd (header e (ltb 5 f) refl))
+    (λ e. absurd (check e (early-or-known f n frame known to) (ltb 7 f) refl))
   where
-    header : length frame ≡ 19 → Stage f n → ⊥
-    header e (before-dlc g d) = omega (arith, to)
-    header e (dlc g d) = omega (arith, to)
-    header e (data-bits g s d) = omega (arith, from)
-    header e (crc-bits g s d) = omega (arith, from)
-    header e (ending g s o d) = omega (arith, from)
+    header : length frame ≡ 19 → (t : Bool) → ltb 5 f ≡ t → ⊥
+    header e true d = omega (arith, from, data-from f n (ltb-true 5 f d))
+    header e false d = omega (arith, to, header-end f n (ltb-false 5 f d))
 
-    check : length frame ≡ 19 + 8 * dlcIn frame + 15 → Stage f n → ⊥
-    check e (before-dlc g d) = omega (arith, to)
-    check e (dlc g d) = omega (arith, to)
-    check e (data-bits g s d) = omega (arith, to, known (omega arith))
-    check e (crc-bits g s d) = omega (arith, to, known (omega arith))
-    check e (ending g s o d) = omega (arith, from, known (omega arith))
+    check : length frame ≡ 19 + 8 * dlcIn frame + 15 → (length frame < 19) ⊎ (dlcIn frame ≡ n) → (t : Bool) → ltb 7 f ≡ t → ⊥
+    check e (inl early) t d = omega arith
+    check e (inr is) true d = omega (arith, from, ending-from f n (ltb-true 7 f d))
+    check e (inr is) false d = omega (arith, to, crc-end f n (ltb-false 7 f d))
 
 -- what a step in field f leads to
 abbrev pub Goes : List ℕ → ℕ → Seen → Step → Type 0
@@ -97,7 +95,7 @@ module _ (line : List ℕ) (f : ℕ) (seen : Seen) (frame : List ℕ) (h : f < 1
   known = dlc-known f (seen .header) (seen .field) (seen .number) frame (w .registers)
 
   begun : complete frame ≡ false
-  begun = not-complete f (bytes seen) frame h (w .from) to known
+  begun = not-complete f (bytes seen) frame known (w .from) to h
 
   leads : scanned line ≡ rest line seen frame
   leads = w .leads ∙ ap (λ (v : Verdict). onward v (rest line seen frame)) (pending-none (seen .left) frame (seen .place) some)
@@ -108,7 +106,7 @@ module _ (line : List ℕ) (f : ℕ) (seen : Seen) (frame : List ℕ) (h : f < 1
 
   -- the bit that must stand next
   pub must-stand : mustBe frame ≡ fieldIn f (fieldsOf (bytes seen)) .bit
-  must-stand = must-is f (bytes seen) frame h (w .from) to known
+  must-stand = must-is f (bytes seen) frame known (w .from) to
 
   pub number-small : seen .number < 2 ^ 63
   number-small = small (w .registers)
@@ -138,7 +136,9 @@ module _ (line : List ℕ) (f : ℕ) (seen : Seen) (frame : List ℕ) (h : f < 1
     further = sym (ap (drop 1) e) ∙ drop-drop 1 (seen .place) line
 
     inside : seen .place < length line
-    inside = let long : length (drop (seen .place) line) ≡ suc (length l) = ap length e in omega (arith, long, length-drop (seen .place) line)
+    inside =
+        let long : length (drop (seen .place) line) ≡ suc (length l) = ap length e in
+        omega (arith, long, length-drop (seen .place) line)
 
     module _ (bit : b ≤ 1) where
       within-stuff : stuffDue (seen .run) frame ≡ true → (b ≡ seen .run .bit → ⊥) → Within line f (behindStuffBit b seen) frame
@@ -159,7 +159,8 @@ module _ (line : List ℕ) (f : ℕ) (seen : Seen) (frame : List ℕ) (h : f < 1
       unfolding stuffBit
       stuff-goes due = go (eqb b (seen .run .bit)) refl
         where
-          go : (t : Bool) → eqb b (seen .run .bit) ≡ t → Goes line f seen (cond t (Refused (StuffBit (seen .place))) (Next (behindStuffBit b seen)))
+          go : (t : Bool) → eqb b (seen .run .bit) ≡ t
+              → Goes line f seen (cond t (Refused (StuffBit (seen .place))) (Next (behindStuffBit b seen)))
           go true d = went _ (sixth-bit (seen .run) frame (seen .place) b begun bit due (eqb-true _ _ d))
           go false d = (frame, within-stuff due (eqb-false _ _ d), inside, refl)
 
@@ -179,25 +180,24 @@ module _ (line : List ℕ) (f : ℕ) (seen : Seen) (frame : List ℕ) (h : f < 1
           go : (k : ℕ) → seen .left - 1 ≡ k → pending k more (seen .place + 1) ≡ shown more (seen .place)
           go zero d = ap (shown more) (omega arith)
           go (suc k) d =
-              sym (shown-inside f (bytes seen) more (seen .place) h (omega (arith, w .from, longer frame b)) (omega (arith, w .at-is, longer frame b))
+              sym (shown-inside f (bytes seen) more (seen .place) (omega (arith, w .from, longer frame b)) (omega (arith, w .at-is, longer frame b))
               (dlc-known f (seen .header) (seen .field) (seen .number * 2 + b) more added))
 
       few-more : stuffDue (seen .run) frame ≡ false → Few (behindBit b seen) more
       unfolding more runWith dueIn
-      few-more due = go (stage f (bytes seen) h)
+      few-more due = go (ltb 7 f) refl
         where
           longest : counted (seen .run) b ≤ seen .run .count + 1
           longest = counted-at-most (seen .run) b
 
           not-five : f ≤ 7 → seen .run .count ≡ 5 → ⊥
-          not-five g = eqb-false _ _ (rw (le-ltb 7 f g) at (sym (due-is f (bytes seen) frame h (w .from) to known (seen .run)) ∙ due))
+          not-five g = eqb-false _ _ (rw (le-ltb 7 f g) at (sym (due-is f (bytes seen) frame known (w .from) to (seen .run)) ∙ due))
 
-          go : Stage f (bytes seen) → Few (behindBit b seen) more
-          go (before-dlc g d) = omega (arith, longest, not-five (omega arith), w .few, to)
-          go (dlc g d) = omega (arith, longest, not-five (omega arith), w .few, to)
-          go (data-bits g s d) = omega (arith, longest, not-five (omega arith), w .few, to)
-          go (crc-bits g s d) = omega (arith, longest, not-five (omega arith), w .few, to)
-          go (ending g s o d) = omega (arith, longest, w .few, w .from, longer frame b)
+          go : (t : Bool) → ltb 7 f ≡ t → Few (behindBit b seen) more
+          go true d = omega (arith, longest, w .few, w .from, longer frame b, ending-from f (bytes seen) (ltb-true 7 f d))
+          go false d =
+              let over = ltb-false 7 f d in
+              omega (arith, longest, not-five over, w .few, to, crc-end f (bytes seen) over)
 
       within-bit : stuffDue (seen .run) frame ≡ false → (mustBe frame ≡ 1 - b → ⊥) → Within line f (behindBit b seen) more
       unfolding runWith frameWith more
@@ -228,8 +228,8 @@ module _ (line : List ℕ) (f : ℕ) (seen : Seen) (frame : List ℕ) (h : f < 1
     where
       next : (b : ℕ) (l : List ℕ) (e : drop (seen .place) line ≡ b ∷ l) → b ≤ 1 → (t : Bool) → dueIn f (seen .run) ≡ t
           → Goes line f seen (cond t (stuffBit b seen) (fieldBit b must seen))
-      next b l e bit true d = stuff-goes b l e bit (due-is f (bytes seen) frame h (w .from) to known (seen .run) ∙ d)
-      next b l e bit false d = field-goes b l e bit must m (due-is f (bytes seen) frame h (w .from) to known (seen .run) ∙ d)
+      next b l e bit true d = stuff-goes b l e bit (due-is f (bytes seen) frame known (w .from) to (seen .run) ∙ d)
+      next b l e bit false d = field-goes b l e bit must m (due-is f (bytes seen) frame known (w .from) to (seen .run) ∙ d)
 
       byte : (b : ℕ) (l : List ℕ) (e : drop (seen .place) line ≡ b ∷ l) (t : Bool) → ltb 1 b ≡ t
           → Goes line f seen (cond t (Refused (LineByte (seen .place))) (cond (dueIn f (seen .run)) (stuffBit b seen) (fieldBit b must seen)))

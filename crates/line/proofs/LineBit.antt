@@ -13,23 +13,31 @@ use borrow.Author.Tests.{lt-ltb, le-ltb}
 use Rattle.refusals.specs.declared.Refusal.the-variants.{LineByte, LineLength}
 use Rattle.line.specs.Steps.{dueIn, stuffBit, fieldBit, lineBit}
 use Rattle.line.specs.declared.seen.Seen.{Seen}
+use Rattle.line.specs.declared.seen.Step.{Step}
 use Rattle.line.specs.declared.seen.Step.the-variants.{Refused}
 
 module _ (line : List ℕ) (f must : ℕ) (seen : Seen) where
-  pub bit-missing : length line ≤ seen .place → Refused (LineLength (seen .place)) ≡ lineBit f must seen (drop (seen .place) line)
+  -- the step at what is left of the line, and the bit there
+  abbrev step : Step
+  step = lineBit f must seen (drop (seen .place) line)
+
+  abbrev bit : ℕ
+  bit = getD line (seen .place) 0
+
+  pub bit-missing : length line ≤ seen .place → Refused (LineLength (seen .place)) ≡ step
   unfolding lineBit
   bit-missing h = rw (drop-of-length-le line h) refl
 
   module _ (h : seen .place < length line) where
-    pub bit-above-1 : 1 < getD line (seen .place) 0 → Refused (LineByte (seen .place)) ≡ lineBit f must seen (drop (seen .place) line)
+    pub bit-above-1 : 1 < bit → Refused (LineByte (seen .place)) ≡ step
     unfolding lineBit
     bit-above-1 l = rw (drop-cons line (seen .place) 0 h, lineBit, lt-ltb _ _ l) refl
 
-    module _ (l : getD line (seen .place) 0 ≤ 1) where
-      pub bit-stuff : dueIn f (seen .run) ≡ true → stuffBit (getD line (seen .place) 0) seen ≡ lineBit f must seen (drop (seen .place) line)
+    module _ (l : bit ≤ 1) where
+      pub bit-stuff : dueIn f (seen .run) ≡ true → stuffBit bit seen ≡ step
       unfolding lineBit
       bit-stuff d = rw (drop-cons line (seen .place) 0 h, lineBit, le-ltb _ _ l, d) refl
 
-      pub bit-field : dueIn f (seen .run) ≡ false → fieldBit (getD line (seen .place) 0) must seen ≡ lineBit f must seen (drop (seen .place) line)
+      pub bit-field : dueIn f (seen .run) ≡ false → fieldBit bit must seen ≡ step
       unfolding lineBit
       bit-field d = rw (drop-cons line (seen .place) 0 h, lineBit, le-ltb _ _ l, d) refl

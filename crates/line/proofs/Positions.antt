@@ -1,13 +1,17 @@
 -- Where the fields of a frame stand. Assumes nothing.
 --     startOf, endOf    the positions of field f's first bit and of the one behind its last, where the frame has n data bytes
---     stage             which part of the frame a field is in
 --     next-start        a field starts where the one before it ends
+--     end-some, header-end, data-end, crc-end, end-within    how far fields reach
+--     first-start, data-start, data-from, ending-from, frame-end    and from where on
+--     Stage, stage      which part of the frame a field is in
+--     early-or-known    where the DLC is not known yet, nothing hangs on it
 --     must-is           the bit that must stand next is the field's
 --     due-is            a stuff bit is due as the field says
---     not-complete      no field ends behind the frame
+--     not-complete      in a field the frame is not complete
 use mathlib.Core.Path.{_≡_, refl, sym, ap, _∙_, subst}
 use mathlib.Core.Bool.{Bool, true, false, cond, _&&_, and-true, and-false}
 use mathlib.Core.List.{List, [], _∷_}
+use mathlib.Core.Logic.{_⊎_, inl, inr}
 use Prim.Native.Nat.{ℕ, zero, suc, _+_, _-_, _*_, _≤_, _<_}
 use native.Mathlib.Nat.{zero-add, suc-add}
 use native.Mathlib.Numerals.{add-one}
@@ -15,7 +19,7 @@ use native.Mathlib.Omega.{arith}
 use lib.Dec.{eqb, leb, ltb}
 use lib.ListN.{length, getD, replicate, length-replicate, getD-replicate, List·getD-append}
 use lib.Seq.{getD-append-add}
-use borrow.Author.Tests.{lt-ltb, le-ltb, le-leb, lt-leb, ne-eqb, ltb-true, ltb-false, eqb-true, eqb-false}
+use borrow.Author.Tests.{le-leb, lt-leb, ne-eqb, ltb-true, ltb-false, eqb-true, eqb-false}
 use Rattle.bits.specs.declared.Run.{Run}
 use Rattle.line.specs.Fields.{fixed, either, fieldsOf, form}
 use Rattle.line.specs.Scan.{dlcIn, crcStart, complete, stuffDue, mustBe}
@@ -96,7 +100,13 @@ pub frame-end : (n : ℕ) → startOf 12 n ≡ 44 + 8 * n
 unfolding startOf fieldsOf
 frame-end n = omega arith
 
--- where fields end
+-- where fields start and end
+pub data-from : (f n : ℕ) → 5 < f → 19 ≤ startOf f n
+data-from f n h = omega (arith, later 6 f n h, data-start n)
+
+pub ending-from : (f n : ℕ) → 7 < f → 34 + 8 * n ≤ startOf f n
+ending-from f n h = omega (arith, later 8 f n h, ending-start n)
+
 pub end-some : (f n : ℕ) → 0 < endOf f n
 unfolding endOf
 end-some f n = omega (arith, later 1 (suc f) n (omega arith), identifier-start n)
@@ -108,6 +118,10 @@ header-end f n h = omega (arith, later (suc f) 6 n (omega arith), data-start n)
 pub data-end : (f n : ℕ) → f ≤ 6 → endOf f n ≤ 19 + 8 * n
 unfolding endOf
 data-end f n h = omega (arith, later (suc f) 7 n (omega arith), crc-start n)
+
+pub crc-end : (f n : ℕ) → f ≤ 7 → endOf f n ≤ 34 + 8 * n
+unfolding endOf
+crc-end f n h = omega (arith, later (suc f) 8 n (omega arith), ending-start n)
 
 pub end-within : (f n : ℕ) → f < 12 → endOf f n ≤ 44 + 8 * n
 unfolding endOf
@@ -125,19 +139,25 @@ pub stage : (f n : ℕ) → f < 12 → Stage f n
 unfolding endOf
 stage f n h = first (ltb f 5) refl
   where
+    starts : (k : ℕ) → f ≡ k → startOf f n ≡ startOf k n
+    starts k i = ap (λ (j : ℕ). startOf j n) i
+
+    ends : (k : ℕ) → f ≡ k → startOf (suc f) n ≡ startOf (suc k) n
+    ends k i = ap (λ (j : ℕ). startOf (suc j) n) i
+
     fourth : (t : Bool) → eqb f 7 ≡ t → 7 ≤ f → Stage f n
-    fourth true e g = let i = eqb-true f 7 e in crc-bits i (ap (λ (k : ℕ). startOf k n) i ∙ crc-start n) (ap (λ (k : ℕ). startOf (suc k) n) i ∙ ending-start n)
+    fourth true e g = let i = eqb-true f 7 e in crc-bits i (starts 7 i ∙ crc-start n) (ends 7 i ∙ ending-start n)
     fourth false e g =
         let i = eqb-false f 7 e in
-        let over : 8 ≤ f = omega arith in
-        ending over (omega (arith, later 8 f n over, ending-start n)) (omega (arith, later 9 (suc f) n (omega arith), slot-start n)) (end-within f n h)
+        let over : 7 < f = omega arith in
+        ending over (ending-from f n over) (omega (arith, later 9 (suc f) n (omega arith), slot-start n)) (end-within f n h)
 
     third : (t : Bool) → eqb f 6 ≡ t → 6 ≤ f → Stage f n
-    third true e g = let i = eqb-true f 6 e in data-bits i (ap (λ (k : ℕ). startOf k n) i ∙ data-start n) (ap (λ (k : ℕ). startOf (suc k) n) i ∙ crc-start n)
+    third true e g = let i = eqb-true f 6 e in data-bits i (starts 6 i ∙ data-start n) (ends 6 i ∙ crc-start n)
     third false e g = let i = eqb-false f 6 e in fourth (eqb f 7) refl (omega arith)
 
     second : (t : Bool) → eqb f 5 ≡ t → 5 ≤ f → Stage f n
-    second true e g = let i = eqb-true f 5 e in dlc i (ap (λ (k : ℕ). startOf (suc k) n) i ∙ data-start n)
+    second true e g = let i = eqb-true f 5 e in dlc i (ends 5 i ∙ data-start n)
     second false e g = let i = eqb-false f 5 e in third (eqb f 6) refl (omega arith)
 
     first : (t : Bool) → ltb f 5 ≡ t → Stage f n
@@ -150,56 +170,64 @@ unfolding form
 form-at zero [] i h = absurd (omega arith)
 form-at zero (x ∷ l) i h =
     let inside : i < length (replicate (x .bits) (x .bit)) = rw (length-replicate (x .bits) (x .bit)) h in
-    rw (zero-add, List·getD-append (replicate (x .bits) (x .bit)) (form l) either i inside) (getD-replicate (x .bits) i (x .bit) either h)
+    rw (zero-add, List·getD-append (replicate (x .bits) (x .bit)) (form l) either i inside)
+    (getD-replicate (x .bits) i (x .bit) either h)
 form-at (suc f) [] i h = absurd (omega arith)
 form-at (suc f) (x ∷ l) i h =
     let at : x .bits + before f l + i ≡ length (replicate (x .bits) (x .bit)) + (before f l + i) =
     rw (length-replicate (x .bits) (x .bit)) (omega arith) in
     rw (at, getD-append-add (replicate (x .bits) (x .bit)) (form l) (before f l + i) either) (form-at f l i h)
 
--- a frame whose next bit is one of field f; the DLC is known behind the header
-module _ (f n : ℕ) (frame : List ℕ) (h : f < 12) (from : startOf f n ≤ length frame) (to : length frame < endOf f n) (known : 5 < f → dlcIn frame ≡ n) where
-  pub must-is : mustBe frame ≡ fieldIn f (fieldsOf n) .bit
-  unfolding mustBe startOf
-  must-is = same (stage f n h) ∙ at
+-- a frame that reaches into field f, or up to its end; the DLC is known behind the header
+module _ (f n : ℕ) (frame : List ℕ) (known : 5 < f → dlcIn frame ≡ n) where
+  pub early-or-known : length frame < endOf f n → (length frame < 19) ⊎ (dlcIn frame ≡ n)
+  early-or-known to = go (ltb 5 f) refl
     where
-      p : ℕ
-      p = length frame
+      go : (t : Bool) → ltb 5 f ≡ t → (length frame < 19) ⊎ (dlcIn frame ≡ n)
+      go true e = inr (known (ltb-true 5 f e))
+      go false e = inl (omega (arith, to, header-end f n (ltb-false 5 f e)))
 
-      early : p < 19 → getD (form (fieldsOf (dlcIn frame))) p either ≡ getD (form (fieldsOf n)) p either
-      early e = must-early (dlcIn frame) p e ∙ sym (must-early n p e)
+  module _ (from : startOf f n ≤ length frame) (to : length frame < endOf f n) where
+    pub must-is : mustBe frame ≡ fieldIn f (fieldsOf n) .bit
+    unfolding mustBe startOf
+    must-is = same (early-or-known to) ∙ at
+      where
+        p : ℕ
+        p = length frame
 
-      same : Stage f n → getD (form (fieldsOf (dlcIn frame))) p either ≡ getD (form (fieldsOf n)) p either
-      same (before-dlc g e) = early (omega (arith, to))
-      same (dlc g e) = early (omega (arith, to))
-      same (data-bits g s e) = ap (λ (k : ℕ). getD (form (fieldsOf k)) p either) (known (omega arith))
-      same (crc-bits g s e) = ap (λ (k : ℕ). getD (form (fieldsOf k)) p either) (known (omega arith))
-      same (ending g s o e) = ap (λ (k : ℕ). getD (form (fieldsOf k)) p either) (known (omega arith))
+        same : (p < 19) ⊎ (dlcIn frame ≡ n) → getD (form (fieldsOf (dlcIn frame))) p either ≡ getD (form (fieldsOf n)) p either
+        same (inl e) = must-early (dlcIn frame) p e ∙ sym (must-early n p e)
+        same (inr e) = ap (λ (k : ℕ). getD (form (fieldsOf k)) p either) e
 
-      at : getD (form (fieldsOf n)) p either ≡ fieldIn f (fieldsOf n) .bit
-      at =
-          let sum : startOf f n + (p - startOf f n) ≡ p = omega (arith, from) in
-          subst (λ (k : ℕ). getD (form (fieldsOf n)) k either ≡ fieldIn f (fieldsOf n) .bit) sum
-          (form-at f (fieldsOf n) (p - startOf f n) (omega (arith, from, to, end-is f n)))
+        at : getD (form (fieldsOf n)) p either ≡ fieldIn f (fieldsOf n) .bit
+        at =
+            let sum : startOf f n + (p - startOf f n) ≡ p = omega (arith, from) in
+            subst (λ (k : ℕ). getD (form (fieldsOf n)) k either ≡ fieldIn f (fieldsOf n) .bit) sum
+            (form-at f (fieldsOf n) (p - startOf f n) (omega (arith, from, to, end-is f n)))
 
-  pub due-is : (run : Run) → stuffDue run frame ≡ dueIn f run
-  unfolding stuffDue dueIn crcStart
-  due-is run = go (stage f n h)
-    where
-      go : Stage f n → (eqb (run .count) 5 && leb (length frame) (19 + 8 * dlcIn frame + 14)) ≡ cond (ltb 7 f) false (eqb (run .count) 5)
-      go (before-dlc g e) = simp (le-ltb 7 f (omega arith), le-leb (length frame) (19 + 8 * dlcIn frame + 14) (omega (arith, to)), and-true)
-      go (dlc g e) = simp (le-ltb 7 f (omega arith), le-leb (length frame) (19 + 8 * dlcIn frame + 14) (omega (arith, to)), and-true)
-      go (data-bits g s e) = simp (le-ltb 7 f (omega arith), le-leb (length frame) (19 + 8 * dlcIn frame + 14) (omega (arith, to, known (omega arith))), and-true)
-      go (crc-bits g s e) = simp (le-ltb 7 f (omega arith), le-leb (length frame) (19 + 8 * dlcIn frame + 14) (omega (arith, to, known (omega arith))), and-true)
-      go (ending g s o e) = simp (lt-ltb 7 f g, lt-leb (length frame) (19 + 8 * dlcIn frame + 14) (omega (arith, from, known (omega arith))), and-false)
+    pub due-is : (run : Run) → stuffDue run frame ≡ dueIn f run
+    unfolding stuffDue dueIn crcStart
+    due-is run = go (ltb 7 f) refl
+      where
+        last : ℕ
+        last = 19 + 8 * dlcIn frame + 14
 
-  pub not-complete : complete frame ≡ false
-  unfolding complete crcStart
-  not-complete = ne-eqb (length frame) (19 + 8 * dlcIn frame + 25) (λ e. go (stage f n h) e)
-    where
-      go : Stage f n → length frame ≡ 19 + 8 * dlcIn frame + 25 → ⊥
-      go (before-dlc g e) d = omega (arith, to)
-      go (dlc g e) d = omega (arith, to)
-      go (data-bits g s e) d = omega (arith, to, known (omega arith))
-      go (crc-bits g s e) d = omega (arith, to, known (omega arith))
-      go (ending g s o e) d = omega (arith, to, known (omega arith))
+        within : f ≤ 7 → (length frame < 19) ⊎ (dlcIn frame ≡ n) → length frame ≤ last
+        within g (inl e) = omega arith
+        within g (inr e) = omega (arith, to, crc-end f n g)
+
+        go : (t : Bool) → ltb 7 f ≡ t → (eqb (run .count) 5 && leb (length frame) last) ≡ cond t false (eqb (run .count) 5)
+        go true e =
+            let over = ltb-true 7 f e in
+            let past : last < length frame = omega (arith, from, ending-from f n over, known (omega arith)) in
+            rw (lt-leb (length frame) last past) (and-false (eqb (run .count) 5))
+        go false e =
+            rw (le-leb (length frame) last (within (ltb-false 7 f e) (early-or-known to))) (and-true (eqb (run .count) 5))
+
+    pub not-complete : f < 12 → complete frame ≡ false
+    unfolding complete crcStart
+    not-complete h = ne-eqb (length frame) (19 + 8 * dlcIn frame + 25) (λ e. go (early-or-known to) e)
+      where
+        go : (length frame < 19) ⊎ (dlcIn frame ≡ n) → length frame ≡ 19 + 8 * dlcIn frame + 25 → ⊥
+        go (inl d) e = omega arith
+        go (inr d) e = omega (arith, to, end-within f n h)

@@ -2,16 +2,21 @@
 --     read-stopped     the first problem met is the answer, whatever the room
 --     read-whole       where the bits are right, decoding the data field decides
 --     payload-whole    and its words carry the payload
-use mathlib.Core.Path.{_≡_, ap}
+--     line-only        the document's numbers tell which answer it is
+use mathlib.Core.Path.{_≡_, sym, ap, ap₂}
 use mathlib.Core.List.{List}
 use Prim.Native.Nat.{ℕ}
+use lib.ListN.{getD}
 use Rattle.refusals.specs.declared.Refusal.{Refusal}
+use Rattle.refusals.proofs.Table.{refusal-only, number-some}
 use Rattle.field.specs.Decode.{decodeAnswer, payloadOf}
 use Rattle.line.specs.Scan.{Scanned, whole, stopped, scanned}
-use Rattle.line.specs.Read.{identifierIn, fieldIn, withIdentifier, decoded, readAnswer, carried, payloadIn}
-use Rattle.line.specs.declared.Line.the-variants.{Refused}
+use Rattle.line.specs.Read.{identifierIn, fieldIn, withIdentifier, decoded, readAnswer, carried, payloadIn, lineNumbers}
+use Rattle.line.specs.declared.Line.{Line}
+use Rattle.line.specs.declared.Line.the-variants.{Frame, Refused}
 
-pub read-stopped : (line : List ℕ) (room : ℕ) (refusal : Refusal) → scanned line ≡ stopped refusal → readAnswer line room ≡ Refused refusal
+pub read-stopped : (line : List ℕ) (room : ℕ) (refusal : Refusal) → scanned line ≡ stopped refusal
+    → readAnswer line room ≡ Refused refusal
 unfolding readAnswer
 read-stopped line room refusal e = ap (λ (s : Scanned). decoded s room) e
 
@@ -23,3 +28,10 @@ read-whole line frame room e = ap (λ (s : Scanned). decoded s room) e
 pub payload-whole : (line frame : List ℕ) → scanned line ≡ whole frame → payloadIn line ≡ payloadOf (fieldIn frame)
 unfolding payloadIn
 payload-whole line frame e = ap carried e
+
+pub line-only : (a b : Line) → lineNumbers a ≡ lineNumbers b → a ≡ b
+line-only (Frame i m) (Frame j n) e = ap₂ Frame (ap (λ (l : List ℕ). getD l 1 0) e) (ap (λ (l : List ℕ). getD l 2 0) e)
+line-only (Frame i m) (Refused r) e = absurd (number-some r (ap (λ (l : List ℕ). getD l 0 0) e))
+line-only (Refused r) (Frame j n) e = absurd (number-some r (sym (ap (λ (l : List ℕ). getD l 0 0) e)))
+line-only (Refused r) (Refused q) e =
+    ap Refused (refusal-only r q (ap (λ (l : List ℕ). getD l 0 0) e) (ap (λ (l : List ℕ). getD l 1 0) e))

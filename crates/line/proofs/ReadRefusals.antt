@@ -22,7 +22,7 @@ use Rattle.line.specs.Scan.{Scanned, whole, stopped, scanned}
 use Rattle.line.specs.Read.{identifierIn, fieldIn, withIdentifier, decoded, readAnswer}
 use Rattle.line.specs.declared.Line.the-variants.{Frame, Refused}
 use Rattle.line.proofs.ReadAnswers.{read-stopped}
-use Rattle.line.proofs.FirstProblem.{OfBits, stopped-so, stopped-stays, stopped-inside, cut-short, made-longer}
+use Rattle.line.proofs.FirstProblem.{OfBits, stopped-at, stopped-stays, cut-short, made-longer}
 use Rattle.line.proofs.FrameOf.{field-bytes}
 use Rattle.line.proofs.RoundTrip.{line-scanned}
 
@@ -31,7 +31,8 @@ only-field refusal h (inl three) = h .0 three
 only-field refusal h (inr above) = omega (arith, h .1)
 
 -- where the bits are right, what decoding refuses with
-from-field : (identifier : ℕ) (a : Answer) (refusal : Refusal) → OfField a → withIdentifier identifier a ≡ Refused refusal → (OfBits refusal → ⊥) × (a ≡ answer.Refused refusal)
+from-field : (identifier : ℕ) (a : Answer) (refusal : Refusal) → OfField a → withIdentifier identifier a ≡ Refused refusal
+    → (OfBits refusal → ⊥) × (a ≡ answer.Refused refusal)
 from-field identifier (answer.Length n) refusal h e = let z : _≡_ {A = ℕ} 0 1 = cc in absurd (omega arith)
 from-field identifier (answer.Refused r) refusal h e =
     let same : r ≡ refusal = cc in
@@ -48,7 +49,8 @@ module _ (line : List ℕ) (room : ℕ) (refusal : Refusal) (e : readAnswer line
   decoding : (frame : List ℕ) → scanned line ≡ whole frame → decoded (whole frame) room ≡ Refused refusal
       → (OfBits refusal → ⊥) × (decodeAnswer (fieldIn frame) room ≡ answer.Refused refusal)
   decoding frame d q =
-      from-field (identifierIn frame) (decodeAnswer (fieldIn frame) room) refusal (decode-numbers (fieldIn frame) room (allowed line frame d)) q
+      let field = fieldIn frame in
+      from-field (identifierIn frame) (decodeAnswer field room) refusal (decode-numbers field room (allowed line frame d)) q
 
   pub bits-refused : OfBits refusal → scanned line ≡ stopped refusal
   unfolding readAnswer
@@ -59,13 +61,14 @@ module _ (line : List ℕ) (room : ℕ) (refusal : Refusal) (e : readAnswer line
       go (whole frame) d q =
           absurd (decoding frame d q .0 own)
 
-  pub field-refused : (OfBits refusal → ⊥) → (frame : List ℕ) × (scanned line ≡ whole frame) × (decodeAnswer (fieldIn frame) room ≡ answer.Refused refusal)
+  pub field-refused : (OfBits refusal → ⊥)
+      → (frame : List ℕ) × (scanned line ≡ whole frame) × (decodeAnswer (fieldIn frame) room ≡ answer.Refused refusal)
   unfolding readAnswer
   field-refused other = go (scanned line) refl e
     where
       go : (s : Scanned) → scanned line ≡ s → decoded s room ≡ Refused refusal
           → (frame : List ℕ) × (scanned line ≡ whole frame) × (decodeAnswer (fieldIn frame) room ≡ answer.Refused refusal)
-      go (stopped r) d q = let same : r ≡ refusal = cc in absurd (other (subst OfBits same (stopped-so line r d)))
+      go (stopped r) d q = let same : r ≡ refusal = cc in absurd (other (subst OfBits same (stopped-at line r d .own)))
       go (whole frame) d q = (frame, d, decoding frame d q .1)
 
   -- of 11 only where bits are too many
@@ -73,15 +76,16 @@ module _ (line : List ℕ) (room : ℕ) (refusal : Refusal) (e : readAnswer line
       → take (placeOf refusal + 1) line ≡ take (placeOf refusal + 1) line′ → readAnswer line′ room′ ≡ Refused refusal
   first-problem line′ room′ own long same =
       let stop = bits-refused own in
-      read-stopped line′ room′ refusal (stopped-stays line line′ refusal stop (inside (stopped-inside line refusal stop)) same)
+      read-stopped line′ room′ refusal (stopped-stays line line′ refusal stop (inside (stopped-at line refusal stop .inside)) same)
     where
-      inside : (placeOf refusal < length line) ⊎ (refusal ≡ LineLength (length line)) → placeOf refusal < length line
-      inside (inl h) = h
+      inside : (placeOf refusal < 0 + length line) ⊎ (refusal ≡ LineLength (0 + length line)) → placeOf refusal < length line
+      inside (inl h) = omega (arith, h)
       inside (inr end) = long (ap numberOf end)
 
 -- ---- an accepted line
 
-accepted-whole : (line : List ℕ) (room identifier n : ℕ) → readAnswer line room ≡ Frame identifier n → (frame : List ℕ) × (scanned line ≡ whole frame)
+accepted-whole : (line : List ℕ) (room identifier n : ℕ) → readAnswer line room ≡ Frame identifier n
+    → (frame : List ℕ) × (scanned line ≡ whole frame)
 unfolding readAnswer
 accepted-whole line room identifier n e = go (scanned line) refl e
   where

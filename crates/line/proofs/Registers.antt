@@ -1,12 +1,12 @@
 -- The registers hold the frame's bits. Assumes nothing.
+--     Fine           a header whose DLC is not refused
 --     Registers      the bits of the present part are in `number`, those of the parts before it in `header` and `field`
---     bit-added      a bit more
---     number-small   the number of a part leaves room for one
---     dlc-known      the DLC, once the header is read
---     header-put     header, data field: behind their last bit they are put by
---     field-put
---     passed-on      another field behind it changes nothing
---     crc-there      the CRC that stands in the frame, and that of its bits before
+--     longer, bit-added    a bit more
+--     data-length, behind-length    how many bits that makes
+--     dlc-known, dlc-read    the DLC, once the header is read, and as its last bit is
+--     header-put, field-put    behind their last bit header and data field are put by
+--     crc-there      the CRC that stands in the frame is right exactly when the registers say so
+--     identifier-there, field-there    identifier and data field of a whole frame
 use mathlib.Core.Path.{_≡_, refl, sym, ap, ap₂, _∙_}
 use mathlib.Core.List.{List, [], _∷_, _++_, append-nil, append-assoc}
 use Prim.Native.Nat.{ℕ, suc, _+_, _-_, _*_, _/_, _%_, _^_, _≤_, _<_}
@@ -15,13 +15,14 @@ use native.Mathlib.Numerals.{add-one}
 use native.Mathlib.Omega.{arith}
 use lib.Dec.{eqb, lit<}
 use lib.ListN.{length, take, drop, length-append}
-use lib.Seq.{take-at, drop-at, take-all}
+use lib.Seq.{take-at, drop-at}
 use borrow.Author.Tests.{le-ltb}
 use Rattle.bits.specs.Rows.{bits, number}
-use Rattle.bits.specs.Packing.{unpacked, packed}
-use Rattle.bits.proofs.Packing.{packed-length, packed-below, packed-unpacked, unpacked-packed}
+use Rattle.bits.specs.Packing.{packed}
+use Rattle.bits.proofs.Packing.{packed-below, packed-unpacked}
 use Rattle.bits.proofs.Rows.{bits-length, bits-below, bits-split, bits-join, number-low}
 use Rattle.field.specs.Coded.{fieldFrom}
+use Rattle.field.proofs.Coded.{from-length, from-bits}
 use Rattle.frame.specs.Header.{dataBytes}
 use Rattle.frame.specs.Crc.{crc}
 use Rattle.line.specs.Scan.{dlcIn, crcStart, crcRight}
@@ -56,7 +57,8 @@ longer l b = length-append l (b ∷ []) ∙ add-one (length l)
 pub bit-added : (f header field n : ℕ) (frame : List ℕ) (b : ℕ) → b < 2 → Registers f header field n frame
     → Registers f header field (n * 2 + b) (frame ++ (b ∷ []))
 bit-added f header field n frame b h (in-header g e l) =
-    in-header g (ap (λ (l : List ℕ). l ++ (b ∷ [])) e ∙ one-more (length frame) n b h ∙ ap (λ (k : ℕ). bits k (n * 2 + b)) (sym (longer frame b)))
+    in-header g
+    (ap (λ (l : List ℕ). l ++ (b ∷ [])) e ∙ one-more (length frame) n b h ∙ ap (λ (k : ℕ). bits k (n * 2 + b)) (sym (longer frame b)))
     (rw (longer frame b) (one-more-below (length frame) n b h l))
 bit-added f header field n frame b h (in-data k g fine e l) =
     in-data (suc k) g fine (rw (e, append-assoc) (ap (λ (l : List ℕ). bits 19 header ++ l) (one-more k n b h))) (one-more-below k n b h l)
@@ -125,7 +127,8 @@ crc-there header field n k frame h fine e l =
     let split : frame ≡ parts ++ bits k n = e ∙ sym (append-assoc (bits 19 header) (bits (8 * (header % 16)) field) (bits k n)) in
     let start : 19 + 8 * dlcIn frame ≡ 19 + 8 * (header % 16) = ap (λ (j : ℕ). 19 + 8 * j) (ap dlcIn e ∙ dlc-in header _) in
     let check : number 0 (drop (19 + 8 * dlcIn frame) frame) ≡ n =
-    ap (number 0) (ap₂ drop start split ∙ drop-at parts (bits k n) (19 + 8 * (header % 16)) (crc-at header field)) ∙ number-low k n ∙ mod-eq-of-lt l in
+    ap (number 0) (ap₂ drop start split ∙ drop-at parts (bits k n) (19 + 8 * (header % 16)) (crc-at header field))
+    ∙ number-low k n ∙ mod-eq-of-lt l in
     let before : take (19 + 8 * dlcIn frame) frame ≡ parts =
     ap₂ take start split ∙ take-at parts (bits k n) (19 + 8 * (header % 16)) (crc-at header field) in
     rw (check, before, le-ltb 8 (header % 16) (fine .few)) refl
@@ -145,18 +148,13 @@ identifier-there header l =
     ∙ ap (number 0) (take-at middle (bits 7 header ++ l) 11 (bits-length 11 (header / 2 ^ 7)))
     ∙ number-low 11 (header / 2 ^ 7)
 
--- what stands behind n numbers is not looked at
-packed-front : (k n v : ℕ) (l : List ℕ) → packed k n (bits (k * n) v ++ l) ≡ packed k n (bits (k * n) v)
-packed-front k n v l =
-    let front = packed k n (bits (k * n) v) in
-    let below = packed-below k n (bits (k * n) v) (bits-below (k * n) v) in
-    let again : unpacked k front ≡ bits (k * n) v =
-    unpacked-packed k n (bits (k * n) v) (bits-below (k * n) v) (omega (arith, bits-length (k * n) v)) ∙ take-all (k * n) (bits (k * n) v) (omega (arith, bits-length (k * n) v)) in
-    ap₂ (λ (j : ℕ) (m : List ℕ). packed k j (m ++ l)) (sym (packed-length k n (bits (k * n) v))) (sym again) ∙ packed-unpacked k front l below
-
+-- what stands behind the data field's bits is not looked at
 pub field-there : (header field : ℕ) (l frame : List ℕ) → frame ≡ bits 19 header ++ (bits (8 * (header % 16)) field ++ l)
     → fieldFrom (header % 16) field ≡ fieldIn frame
 unfolding fieldFrom fieldIn
 field-there header field l frame e =
+    let n = header % 16 in
+    let below = packed-below 8 n (bits (8 * n) field) (bits-below (8 * n) field) in
     sym (ap₂ (packed 8) (ap dlcIn e ∙ dlc-in header _) (ap (drop 19) e ∙ drop-at (bits 19 header) _ 19 (bits-length 19 header))
-    ∙ packed-front 8 (header % 16) field l)
+    ∙ ap₂ (λ (j : ℕ) (m : List ℕ). packed 8 j (m ++ l)) (sym (from-length n field)) (sym (from-bits n field))
+    ∙ packed-unpacked 8 (fieldFrom n field) l below)

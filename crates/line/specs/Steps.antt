@@ -10,7 +10,7 @@ use Rattle.refusals.specs.declared.Refusal.the-variants.{FieldLength, LineByte,
 use Rattle.field.specs.Coded.{fieldFrom}
 use Rattle.frame.specs.Header.{dataBytes}
 use Rattle.frame.specs.Crc.{crc}
-use Rattle.line.specs.Scan.{runWith, dlcIn, Scanned, whole, stopped}
+use Rattle.line.specs.Scan.{runWith, Scanned, whole, stopped}
 use Rattle.line.specs.Read.{identifierIn, fieldIn}
 use Rattle.line.specs.declared.seen.Seen.{Seen}
 use Rattle.line.specs.declared.seen.Step.{Step}
@@ -99,11 +99,17 @@ unfoldable pub fieldEnd : ℕ → Seen → Step
 fieldEnd f seen =
     cond (eqb f 5) (headerRead seen) (cond (eqb f 6) (fieldRead seen) (cond (eqb f 7) (crcRead seen) (Next seen)))
 
--- registers that hold what the frame's bits hold
+-- the identifier and the data field that the registers hold
+abbrev pub identifierOf : Seen → ℕ
+identifierOf seen = seen .header / 128 % 2048
+
+abbrev pub fieldOf : Seen → List ℕ
+fieldOf seen = fieldFrom (seen .header % 16) (seen .field)
+
+-- they are those among the frame's bits
 pub record Holds (seen : Seen) (frame : List ℕ) : Type 0 where
-  pub identifier-is : seen .header / 128 % 2048 ≡ identifierIn frame
-  pub dlc-is : seen .header % 16 ≡ dlcIn frame
-  pub field-is : fieldFrom (seen .header % 16) (seen .field) ≡ fieldIn frame
+  pub identifier-is : identifierOf seen ≡ identifierIn frame
+  pub field-is : fieldOf seen ≡ fieldIn frame
 
 -- what scanning a line answers
 abbrev pub Reads : Step → Scanned → Type 0

@@ -2,12 +2,10 @@
 ghost use mathlib.Core.Path.{_≡_};
 ghost use Prim.Native.Nat.{_≤_, _<_, _^_};
 ghost use lib.ListN.{drop};
-ghost use Rattle.line.specs.Scan.{runWith};
-ghost use Rattle.line.specs.Steps.{dueIn, stuffBit, fieldBit, lineBit};
-use crate::fields;
+ghost use Rattle.line.specs.Steps.{fieldBit, lineBit};
 use crate::seen::Seen;
 use crate::seen::Step;
-use bits::Run;
+use crate::stuffing;
 use refusals::Refusal;
 
 // Reads the next bit, of the field numbered `field`, or the stuff bit before it.
@@ -23,46 +21,10 @@ pub(crate) fn next(line: &[u8], field: usize, must: u8, seen: Seen) -> Step
     if 1 < bit {
         return Step::Refused(Refusal::LineByte(place));
     }
-    if stuff_due(field, seen.run) {
-        return stuff_bit(bit, seen);
+    if stuffing::is_due(field, seen.run) {
+        return stuffing::stuff_bit(bit, seen);
     }
     field_bit(bit, must, seen)
-}
-
-// Whether a stuff bit is due before the next bit of a field: none is behind the last CRC bit.
-fn stuff_due(field: usize, run: Run) -> bool
-    ensures { λ r. ⌜ r ≡ dueIn field run ⌝ }
-{
-    if fields::CRC < field {
-        return false;
-    }
-    run.count == 5
-}
-
-// The run once a bit is read.
-fn run_with(run: Run, bit: u8) -> Run
-    requires { ⌜ run .count < 255 ⌝ }
-    ensures { λ r. ⌜ r ≡ runWith run bit ⌝ }
-{
-    Run {
-        bit,
-        count: if bit == run.bit { run.count + 1 } else { 1 },
-    }
-}
-
-// A bit where a stuff bit is due: it must not be the sixth of six equal bits.
-fn stuff_bit(bit: u8, seen: Seen) -> Step
-    requires { ⌜ (seen .run .count < 255) × (seen .place < 2 ^ 63) ⌝ }
-    ensures { λ r. ⌜ r ≡ stuffBit bit seen ⌝ }
-{
-    if bit == seen.run.bit {
-        return Step::Refused(Refusal::StuffBit(seen.place));
-    }
-    let run = run_with(seen.run, bit);
-    let mut next = seen;
-    next.place += 1;
-    next.run = run;
-    Step::Next(next)
 }
 
 // A bit of a field; the bits of the field must be `must`, where that is 0 or 1.
@@ -73,7 +35,7 @@ fn field_bit(bit: u8, must: u8, seen: Seen) -> Step
     if must == 1 - bit {
         return Step::Refused(Refusal::FixedBit(seen.place));
     }
-    let run = run_with(seen.run, bit);
+    let run = stuffing::run_with(seen.run, bit);
     let mut next = seen;
     next.place += 1;
     next.run = run;

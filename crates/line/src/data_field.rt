@@ -1,11 +1,10 @@
 // What is done with the data field of a line whose bits are right.
 ghost use mathlib.Core.Path.{_≡_};
-ghost use Prim.Native.Nat.{_/_, _%_};
 ghost use lib.ListN.{length};
 ghost use Rattle.refusals.specs.After.{after};
-ghost use Rattle.field.specs.Coded.{fieldFrom};
 ghost use Rattle.field.specs.Decode.{decodeAnswer, payloadOf};
 ghost use Rattle.line.specs.Read.{withIdentifier, answerOf};
+ghost use Rattle.line.specs.Steps.{identifierOf, fieldOf};
 use crate::Line;
 use crate::seen::Seen;
 use field::decoding;
@@ -13,8 +12,8 @@ use refusals::Answer;
 
 // It is decoded, and the identifier stands beside the answer. Refused with 2 and 4 to 7.
 pub(crate) fn decode(seen: Seen, payload: &mut [u8]) -> Line
-    ensures answer { λ r. ⌜ r ≡ withIdentifier (seen .header / 128 % 2048) (decodeAnswer (fieldFrom (seen .header % 16) (seen .field)) (length (now (payload .entry)))) ⌝ }
-    ensures memory { λ r. ⌜ now (payload .exit) ≡ after (answerOf r) (payloadOf (fieldFrom (seen .header % 16) (seen .field))) (now (payload .entry)) ⌝ }
+    ensures answer { λ r. ⌜ r ≡ withIdentifier (identifierOf seen) (decodeAnswer (fieldOf seen) (length (now (payload .entry)))) ⌝ }
+    ensures memory { λ r. ⌜ now (payload .exit) ≡ after (answerOf r) (payloadOf (fieldOf seen)) (now (payload .entry)) ⌝ }
 {
     let identifier = (seen.header / 128 % 2048) as u32;
     let n = (seen.header % 16) as usize;

@@ -11,41 +11,26 @@ pub(crate) struct Field {
     pub bit: u8,
 }
 
-// Which row is whose, where more than its bits is looked at.
+// How many fields there are, and which of them show more than their bits.
+pub(crate) const COUNT: usize = 12;
+
 pub(crate) const DLC: usize = 5;
 
 pub(crate) const DATA: usize = 6;
 
 pub(crate) const CRC: usize = 7;
 
-const EITHER: u8 = 2;
-
 const FIELDS: [Field; 12] = [
     Field { bits: 1, bit: 0 }, // start of frame
-    Field {
-        bits: 11,
-        bit: EITHER,
-    }, // identifier
+    Field { bits: 11, bit: 2 }, // identifier
     Field { bits: 1, bit: 0 }, // RTR
     Field { bits: 1, bit: 0 }, // IDE
     Field { bits: 1, bit: 0 }, // reserved bit
-    Field {
-        bits: 4,
-        bit: EITHER,
-    }, // DLC
-    Field {
-        bits: 0,
-        bit: EITHER,
-    }, // data
-    Field {
-        bits: 15,
-        bit: EITHER,
-    }, // CRC
+    Field { bits: 4, bit: 2 }, // DLC
+    Field { bits: 0, bit: 2 }, // data
+    Field { bits: 15, bit: 2 }, // CRC
     Field { bits: 1, bit: 1 }, // CRC delimiter
-    Field {
-        bits: 1,
-        bit: EITHER,
-    }, // ACK slot
+    Field { bits: 1, bit: 2 }, // ACK slot
     Field { bits: 1, bit: 1 }, // ACK delimiter
     Field { bits: 7, bit: 1 }, // end bits
 ];

@@ -12,6 +12,7 @@ mod field_end;
 mod fields;
 mod scanning;
 mod seen;
+mod stuffing;
 
 use refusals::Refusal;
 use seen::Step;

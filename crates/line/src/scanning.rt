@@ -17,7 +17,7 @@ pub(crate) fn scan(line: &[u8]) -> Step
     let mut seen = seen::NOTHING;
     let mut i = 0;
     'line: loop {
-        if i == 12 {
+        if i == fields::COUNT {
             if seen.place < line.len() {
                 break 'line Step::Refused(Refusal::LineLength(seen.place));
             }

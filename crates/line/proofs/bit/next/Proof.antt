@@ -14,20 +14,26 @@ shared-slice-read-bit c = search needs
 returns-2 : tie.Need-returns-2
 returns-2 c = bit-above-1 _ _ _ _ (c .before .before .if1 .left) (c .if2 .taken)
 
-stuff-due-requires : tie.Need-stuff-due-requires
-stuff-due-requires c κs = search needs
+is-due-requires : tie.Need-is-due-requires
+is-due-requires c κs = search needs
 
 stuff-bit-requires : tie.Need-stuff-bit-requires
 stuff-bit-requires c κs = search needs
 
 returns-3 : tie.Need-returns-3
-returns-3 c = c .stuff-bit .ensures ∙ bit-stuff _ _ _ _ (c .before .before .before .before .before .if1 .left) (c .before .before .before .if2 .left) (sym (c .before .before .stuff-due .ensures) ∙ c .before .if3 .taken)
+returns-3 c =
+    let at = c .before .before .before in
+    let due = sym (c .before .before .is-due .ensures) ∙ c .before .if3 .taken in
+    c .stuff-bit .ensures ∙ bit-stuff _ _ _ _ (at .before .before .if1 .left) (at .if2 .left) due
 
 field-bit-requires : tie.Need-field-bit-requires
 field-bit-requires c κs = search needs
 
 returns-4 : tie.Need-returns-4
-returns-4 c = c .field-bit .ensures ∙ bit-field _ _ _ _ (c .before .before .before .before .before .if1 .left) (c .before .before .before .if2 .left) (sym (c .before .before .stuff-due .ensures) ∙ c .before .if3 .left)
+returns-4 c =
+    let at = c .before .before .before in
+    let due = sym (c .before .before .is-due .ensures) ∙ c .before .if3 .left in
+    c .field-bit .ensures ∙ bit-field _ _ _ _ (at .before .before .if1 .left) (at .if2 .left) due
 
 pub next-spec : {M : Type 1} → statement M
 next-spec =
@@ -36,7 +42,7 @@ next-spec =
     returns
     shared-slice-read-bit
     returns-2
-    stuff-due-requires
+    is-due-requires
     stuff-bit-requires
     returns-3
     field-bit-requires

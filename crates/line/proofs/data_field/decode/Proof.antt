@@ -1,12 +1,11 @@
 -- `line::data_field::decode` meets its contract: the answer of decoding with the identifier beside it. Assumes nothing.
 use borrow.Author.Needs.{needs}
 use mathlib.Core.Path.{sym, ap, _∙_}
-use Prim.Native.Nat.{_%_}
 use Rattle.refusals.specs.After.{after}
 use Rattle.refusals.specs.declared.Answer.{Answer}
-use Rattle.field.specs.Coded.{fieldFrom}
 use Rattle.field.specs.Decode.{payloadOf}
 use Rattle.line.specs.Read.{withIdentifier}
+use Rattle.line.specs.Steps.{fieldOf}
 use Rattle.line.proofs.data_field.decode.Statement.{statement}
 use Rattle.line.proofs.data_field.decode.Tie as tie
 
@@ -30,7 +29,7 @@ returns c =
     let args = c .before .before .before .before .before .before .before .before .before .before .args in
     let said = c .before .before .before .before .before .decode-number .ensures in
     let known = c .before .length .given .1 in
-    let payload = payloadOf (fieldFrom (args .seen .header % 16) (args .seen .field)) in
+    let payload = payloadOf (fieldOf (args .seen)) in
     (ap (withIdentifier _) (sym known ∙ said .0), said .1 ∙ ap (λ (a : Answer). after a payload (args .payload .now)) known)
 
 same-length-2 : tie.Need-same-length-2
@@ -41,7 +40,7 @@ returns-2 c =
     let args = c .before .before .before .before .before .before .before .before .before .before .args in
     let said = c .before .before .before .before .before .decode-number .ensures in
     let known = c .before .refusal .given .1 in
-    let payload = payloadOf (fieldFrom (args .seen .header % 16) (args .seen .field)) in
+    let payload = payloadOf (fieldOf (args .seen)) in
     (ap (withIdentifier _) (sym known ∙ said .0), said .1 ∙ ap (λ (a : Answer). after a payload (args .payload .now)) known)
 
 pub decode-spec : {M : Type 1} → statement M

@@ -24,7 +24,9 @@ check-requires c κs = search needs
 
 returns-3 : tie.Need-returns-3
 unfolding fieldEnd
-returns-3 c = simp (c .check .ensures, ne-eqb _ _ (c .before .before .before .if1 .left), ne-eqb _ _ (c .before .before .if2 .left), eq-eqb _ _ (c .before .if3 .taken))
+returns-3 c =
+    let at = c .before .before in
+    simp (c .check .ensures, ne-eqb _ _ (at .before .if1 .left), ne-eqb _ _ (at .if2 .left), eq-eqb _ _ (c .before .if3 .taken))
 
 returns-4 : tie.Need-returns-4
 unfolding fieldEnd

@@ -44,29 +44,39 @@ width-requires c κs = search needs
 loop-holds : tie.Need-loop-holds Inv-loop μ-loop Inv-line μ-line
 loop-holds c =
     let l = c .before .before .before .line in
-    let h : l .i < 12 = omega (arith, l .inv .0) in
-    let count = c .width .ensures ∙ ap (λ (table : List Field). width (l .i) (fieldIn (l .i) table .bits) (l .seen .header)) (c .before .before .before .before .all .ensures) ∙ width-is (l .i) (l .seen .header) in
-    (h, (l .inv .1 .0, field-begins _ (l .i) (l .seen) (l .inv .1 .0) _ h count (l .inv .1 .1)))
+    let i = l .i in
+    let h : i < 12 = omega (arith, l .inv .0) in
+    let table = c .before .before .before .before .all .ensures in
+    let count =
+    c .width .ensures ∙ ap (λ (rows : List Field). width i (fieldIn i rows .bits) (l .seen .header)) table ∙ width-is i (l .seen .header) in
+    (h, (l .inv .1 .0, field-begins _ i (l .seen) (l .inv .1 .0) _ h count (l .inv .1 .1)))
 
 next-requires : tie.Need-next-requires Inv-loop μ-loop Inv-line μ-line
 next-requires c κs =
     let l = c .before .before .loop in
-    let w = l .inv .1 .1 in
-    let i = c .before .before .before .before .before .before .line .i in
-    (few-enough _ i (l .seen) (l .inv .1 .0) (l .inv .0) w (c .if3 .taken), c .if3 .taken, number-small _ i (l .seen) (l .inv .1 .0) (l .inv .0) w (c .if3 .taken))
+    let some = c .if3 .taken in
+    let i = c .before .before .before .before .before .before .line .i in (
+      few-enough _ i (l .seen) (l .inv .1 .0) (l .inv .0) (l .inv .1 .1) some,
+      some,
+      number-small _ i (l .seen) (l .inv .1 .0) (l .inv .0) (l .inv .1 .1) some,
+    )
 
 -- what the bit leads to
-goes : (c : tie.After-next Inv-loop μ-loop Inv-line μ-line)
-    → Goes (c .before .before .before .before .before .before .before .before .before .before .args .line .now) (c .before .before .before .before .before .before .before .line .i) (c .before .before .before .loop .seen) (c .next .result)
+goes : (c : tie.After-next Inv-loop μ-loop Inv-line μ-line) →
+    let at = c .before .before .before in
+    let start = at .before .before .before .before in
+    Goes (start .before .before .before .args .line .now) (start .line .i) (at .loop .seen) (c .next .result)
 goes c =
-    let l = c .before .before .before .loop in
-    let i = c .before .before .before .before .before .before .before .line .i in
-    let line = c .before .before .before .before .before .before .before .before .before .before .args .line .now in
-    let table = c .before .before .before .before .before .before .before .before .all .ensures in
-    let must = sym (ap (λ (table : List Field). fieldIn i table .bit) table ∙ bit-is i (bytes (l .seen))) in
-    let goes = bit-goes line i (l .seen) (l .inv .1 .0) (l .inv .0) (l .inv .1 .1) (c .before .if3 .taken) _
-    (must-stand line i (l .seen) (l .inv .1 .0) (l .inv .0) (l .inv .1 .1) (c .before .if3 .taken) ∙ must) in
-    subst (Goes line i (l .seen)) (sym (c .next .ensures)) goes
+    let at = c .before .before .before in
+    let l = at .loop in
+    let i = at .before .before .before .before .line .i in
+    let line = at .before .before .before .before .before .before .before .args .line .now in
+    let some = c .before .if3 .taken in
+    let must =
+    must-stand line i (l .seen) (l .inv .1 .0) (l .inv .0) (l .inv .1 .1) some
+    ∙ sym (ap (λ (rows : List Field). fieldIn i rows .bit) (at .before .before .before .before .before .all .ensures) ∙ bit-is i (bytes (l .seen))) in
+    subst (Goes line i (l .seen)) (sym (c .next .ensures))
+    (bit-goes line i (l .seen) (l .inv .1 .0) (l .inv .0) (l .inv .1 .1) some _ must)
 
 enum-known-next : tie.Need-enum-known-next Inv-loop μ-loop Inv-line μ-line
 enum-known-next c = search needs
@@ -92,12 +102,16 @@ judge-requires c κs =
     omega (arith, w .behind, w .at-is, end-some (c .before .before .before .before .before .before .line .i) (bytes (l .seen)))
 
 -- what the end of the field leads to
-ends : (c : tie.After-judge Inv-loop μ-loop Inv-line μ-line)
-    → Ends (c .before .before .before .before .before .before .before .before .before .before .args .line .now) (c .before .before .before .before .before .before .before .line .i) (c .before .before .before .loop .inv .1 .0) (c .judge .result)
+ends : (c : tie.After-judge Inv-loop μ-loop Inv-line μ-line) →
+    let at = c .before .before .before in
+    let start = at .before .before .before .before in
+    Ends (start .before .before .before .args .line .now) (start .line .i) (at .loop .inv .1 .0) (c .judge .result)
 ends c =
-    let l = c .before .before .before .loop in
+    let at = c .before .before .before in
+    let l = at .loop in
     let none : l .seen .left ≡ 0 = omega (arith, c .before .if3 .left) in
-    subst (Ends _ _ _) (sym (c .judge .ensures)) (field-ends _ (c .before .before .before .before .before .before .before .line .i) (l .seen) (l .inv .1 .0) (l .inv .0) (l .inv .1 .1) none)
+    subst (Ends _ _ _) (sym (c .judge .ensures))
+    (field-ends _ (at .before .before .before .before .line .i) (l .seen) (l .inv .1 .0) (l .inv .0) (l .inv .1 .1) none)
 
 enum-known-next-2 : tie.Need-enum-known-next-2 Inv-loop μ-loop Inv-line μ-line
 enum-known-next-2 c = search needs

@@ -1,9 +1,9 @@
--- `line::bit::run_with` meets its contract. Assumes nothing.
+-- `line::stuffing::run_with` meets its contract. Assumes nothing.
 use borrow.Author.Needs.{needs}
 use borrow.Author.Tests.{eq-eqb, ne-eqb}
 use Rattle.line.specs.Scan.{runWith}
-use Rattle.line.proofs.bit.run_with.Statement.{statement}
-use Rattle.line.proofs.bit.run_with.Tie as tie
+use Rattle.line.proofs.stuffing.run_with.Statement.{statement}
+use Rattle.line.proofs.stuffing.run_with.Tie as tie
 
 add-t8 : tie.Need-add-t8
 add-t8 c = search needs

@@ -1,9 +1,9 @@
--- `line::bit::stuff_bit` meets its contract. Assumes nothing.
+-- `line::stuffing::stuff_bit` meets its contract. Assumes nothing.
 use borrow.Author.Needs.{needs}
 use borrow.Author.Tests.{eq-eqb, ne-eqb}
 use Rattle.line.specs.Steps.{stuffBit}
-use Rattle.line.proofs.bit.stuff_bit.Statement.{statement}
-use Rattle.line.proofs.bit.stuff_bit.Tie as tie
+use Rattle.line.proofs.stuffing.stuff_bit.Statement.{statement}
+use Rattle.line.proofs.stuffing.stuff_bit.Tie as tie
 
 returns : tie.Need-returns
 unfolding stuffBit
