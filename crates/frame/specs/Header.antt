@@ -9,6 +9,6 @@ use Rattle.bits.specs.Rows.{bits}
 unfoldable pub header : ℕ → ℕ → List ℕ
 header identifier n = 0 ∷ (bits 11 identifier ++ (0 ∷ 0 ∷ 0 ∷ bits 4 n))
 
--- how many data bytes a DLC stands for: one above 8 stands for 8
+-- how many data bytes a DLC stands for; ISO 11898-1 reads one above 8 as 8, and a line with it is refused before its CRC is looked at
 unfoldable pub dataBytes : ℕ → ℕ
 dataBytes dlc = cond (ltb 8 dlc) 8 dlc

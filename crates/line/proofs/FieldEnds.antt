@@ -19,7 +19,7 @@ use Rattle.bits.specs.Stuffing.{nothingSent}
 use Rattle.refusals.specs.declared.Refusal.the-variants.{FieldLength, LineLength}
 use Rattle.frame.specs.Header.{dataBytes}
 use Rattle.frame.specs.Crc.{crc}
-use Rattle.line.specs.Fields.{fixed, either, fieldsOf}
+use Rattle.line.specs.Fields.{fixed, free, fieldsOf}
 use Rattle.line.specs.Scan.{dlcIn, complete, crcStart, crcRight, Verdict, right, shown, stopped, onward, scan, scanned}
 use Rattle.line.specs.Read.{identifierIn}
 use Rattle.line.specs.Steps.{width, headerRead, fieldRead, crcRead, fieldEnd, Holds, Reads}
@@ -35,7 +35,7 @@ use Rattle.line.proofs.Keeping.{bytes, rest, pending, Between, Within}
 -- only the data field hangs on the DLC
 other-field : (f n : ℕ) → (f ≡ 6 → ⊥) → fieldIn f (fieldsOf n) ≡ fieldIn f (fieldsOf 0)
 unfolding fieldsOf
-other-field f n h = getD-set-other (fieldsOf 0) 6 f (fixed (8 * n) either) (fixed 0 0) h
+other-field f n h = getD-set-other (fieldsOf 0) 6 f (free (8 * n)) (fixed 0 0) h
 
 pub width-is : (f header : ℕ) → width f (fieldIn f (fieldsOf 0) .bits) header ≡ fieldIn f (fieldsOf (header % 16)) .bits
 unfolding width fieldsOf

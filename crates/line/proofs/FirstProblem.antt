@@ -2,6 +2,7 @@
 --     OfBits, Stops, stopped-at    a line is refused with 3 or 9 to 13, at one of its bits, or with 11 at its end
 --     stopped-stays    where it is one of its bits, it is refused so whatever follows that bit
 --     cut-short        a line that is read, cut anywhere, is refused with 11 at its length
+--     cut-before       and so is a line with a problem, cut before it: nothing to its left is wrong
 --     made-longer      and with bits added, with 11 at the first of them
 use mathlib.Core.Path.{_≡_, refl, sym, ap, _∙_, subst}
 use mathlib.Core.Bool.{Bool, true, false, cond, not, _&&_}
@@ -21,7 +22,7 @@ use Rattle.line.proofs.Verdicts.{bit-too-many}
 
 -- 3, or 9 to 13: what bits are refused with
 abbrev pub OfBits : Refusal → Type 0
-OfBits refusal = (numberOf refusal ≡ 3) ⊎ (8 < numberOf refusal)
+OfBits refusal = (numberOf refusal ≡ 3) ⊎ ((8 < numberOf refusal) × (numberOf refusal < 14))
 
 -- a problem is one of these, at this place
 abbrev At : ℕ → Verdict → Type 0
@@ -32,13 +33,13 @@ At place (wrong refusal) = (placeOf refusal ≡ place) × OfBits refusal
 tests-at : (place : ℕ) (a b c d e f g : Bool)
     → At place (cond a (wrong (LineLength place)) (cond b (wrong (LineByte place)) (cond c (cond d (wrong (StuffBit place)) right)
     (cond e (wrong (FixedBit place)) (cond f (wrong (FieldLength place)) (cond g (wrong (Crc place)) right))))))
-tests-at place true b c d e f g = (refl, inr (lit< tt))
-tests-at place false true c d e f g = (refl, inr (lit< tt))
-tests-at place false false true true e f g = (refl, inr (lit< tt))
+tests-at place true b c d e f g = (refl, inr (lit< tt, lit< tt))
+tests-at place false true c d e f g = (refl, inr (lit< tt, lit< tt))
+tests-at place false false true true e f g = (refl, inr (lit< tt, lit< tt))
 tests-at place false false true false e f g = tt
-tests-at place false false false d true f g = (refl, inr (lit< tt))
+tests-at place false false false d true f g = (refl, inr (lit< tt, lit< tt))
 tests-at place false false false d false true g = (refl, inl refl)
-tests-at place false false false d false false true = (refl, inr (lit< tt))
+tests-at place false false false d false false true = (refl, inr (lit< tt, lit< tt))
 tests-at place false false false d false false false = tt
 
 verdict-at : (run : Run) (frame : List ℕ) (place bit : ℕ) → At place (verdict run frame place bit)
@@ -72,7 +73,7 @@ end-stops : (frame : List ℕ) (place : ℕ) (refusal : Refusal) (t : Bool)
 end-stops frame place refusal true e = never e
 end-stops frame place refusal false e =
     let here : Stops place [] (LineLength place) =
-    record { from = omega arith; inside = inr (ap LineLength (omega arith)); own = inr (lit< tt) } in
+    record { from = omega arith; inside = inr (ap LineLength (omega arith)); own = inr (lit< tt, lit< tt) } in
     subst (Stops place []) (stopped-only e) here
 
 bit-stops : (place bit : ℕ) (line : List ℕ) (refusal : Refusal) (v : Verdict) (next : Scanned)
@@ -135,37 +136,61 @@ stopped-stays line line′ refusal e h same =
     let count : placeOf refusal + 1 ≡ suc (placeOf refusal - 0) = omega arith in
     stays nothingSent [] 0 line line′ refusal e (omega (arith, h)) (rw count at same)
 
--- ---- a line that is read
+-- ---- a line that is cut, or longer
 
--- its first bit comes before the frame's end and is right, and the rest is read
-read-on : (run : Run) (frame : List ℕ) (place bit : ℕ) (line f : List ℕ) → scan run frame place (bit ∷ line) ≡ whole f
-    → (complete frame ≡ false) × (verdict run frame place bit ≡ right) × (behind run frame place bit line ≡ whole f)
+right-begun : (run : Run) (frame : List ℕ) (place bit : ℕ) → verdict run frame place bit ≡ right → complete frame ≡ false
+right-begun run frame place bit e = go (complete frame) refl
+  where
+    go : (t : Bool) → complete frame ≡ t → complete frame ≡ false
+    go true d = let w = sym e ∙ bit-too-many run frame place bit d in let z : _≡_ {A = ℕ} 0 1 = cc in absurd (omega arith)
+    go false d = d
+
+-- a place before the line's end, where the scan comes to that, or before the problem
+abbrev Before : ℕ → ℕ → Scanned → Type 0
+Before at end (whole frame) = at < end
+Before at end (stopped refusal) = at < placeOf refusal
+
+cut : (run : Run) (frame : List ℕ) (place k : ℕ) (line : List ℕ) (s : Scanned) → scan run frame place line ≡ s
+    → Before (place + k) (place + length line) s → scan run frame place (take k line) ≡ stopped (LineLength (place + k))
 unfolding scan
-read-on run frame place bit line f e =
-    let r = go (verdict run frame place bit) e in
-    (begun (complete frame) refl, r .0, r .1)
+cut run frame place k [] s e h = absurd (none (complete frame) (subst (Before (place + k) (place + 0)) (sym e) h))
+  where
+    none : (t : Bool) → Before (place + k) (place + 0) (cond t (whole frame) (stopped (LineLength place))) → ⊥
+    none true b = omega (arith, b)
+    none false b = omega (arith, b)
+cut run frame place k (bit ∷ line) s e h =
+    go k (verdict run frame place bit) refl (verdict-at run frame place bit) e h
+    (λ (j : ℕ). cut (runWith run bit) (frameWith run frame bit) (place + 1) j line s)
   where
     next : Scanned
     next = behind run frame place bit line
 
-    go : (v : Verdict) → onward v next ≡ whole f → (v ≡ right) × (next ≡ whole f)
-    go right d = (refl, d)
-    go (wrong r) d = never (sym d)
+    end : place + 1 + length line ≡ place + suc (length line)
+    end = omega arith
 
-    begun : (t : Bool) → complete frame ≡ t → complete frame ≡ false
-    begun true d = never (sym (ap (λ (v : Verdict). onward v next) (sym (bit-too-many run frame place bit d)) ∙ e))
-    begun false d = d
+    go : (j : ℕ) (v : Verdict) → verdict run frame place bit ≡ v → At place v → onward v next ≡ s → Before (place + j) (place + suc (length line)) s
+        → ((i : ℕ) → next ≡ s → Before (place + 1 + i) (place + 1 + length line) s
+        → scan (runWith run bit) (frameWith run frame bit) (place + 1) (take i line) ≡ stopped (LineLength (place + 1 + i)))
+        → scan run frame place (take j (bit ∷ line)) ≡ stopped (LineLength (place + j))
+    go zero right r a d b later =
+        rw (right-begun run frame place bit r) (ap (λ (p : ℕ). stopped (LineLength p)) (omega arith))
+    go (suc j) right r a d b later =
+        let at : place + 1 + j ≡ place + suc j = omega arith in
+        rw (r, ← at) (later j d (rw (end, at) b))
+    go j (wrong q) r a d b later = absurd (omega (arith, a .0, subst (Before (place + j) (place + suc (length line))) (sym d) b))
 
-cut : (run : Run) (frame : List ℕ) (place k : ℕ) (line f : List ℕ) → scan run frame place line ≡ whole f → k < length line
-    → scan run frame place (take k line) ≡ stopped (LineLength (place + k))
-unfolding scan
-cut run frame place k [] f e h = absurd (omega arith)
-cut run frame place zero (bit ∷ line) f e h =
-    rw (read-on run frame place bit line f e .0) (ap (λ (p : ℕ). stopped (LineLength p)) (omega arith))
-cut run frame place (suc k) (bit ∷ line) f e h =
-    let r = read-on run frame place bit line f e in
-    rw (r .1) (cut (runWith run bit) (frameWith run frame bit) (place + 1) k line f (r .2) (omega arith)
-    ∙ ap (λ (p : ℕ). stopped (LineLength p)) (omega arith))
+-- cut anywhere where a scan comes to the end; before the problem where it stops
+pub cut-short : (line frame : List ℕ) (k : ℕ) → scanned line ≡ whole frame → k < length line
+    → scanned (take k line) ≡ stopped (LineLength k)
+unfolding scanned
+cut-short line frame k e h =
+    cut nothingSent [] 0 k line (whole frame) e (omega (arith, h)) ∙ ap (λ (p : ℕ). stopped (LineLength p)) (omega arith)
+
+pub cut-before : (line : List ℕ) (refusal : Refusal) (k : ℕ) → scanned line ≡ stopped refusal → k < placeOf refusal
+    → scanned (take k line) ≡ stopped (LineLength k)
+unfolding scanned
+cut-before line refusal k e h =
+    cut nothingSent [] 0 k line (stopped refusal) e (omega (arith, h)) ∙ ap (λ (p : ℕ). stopped (LineLength p)) (omega arith)
 
 longer : (run : Run) (frame : List ℕ) (place : ℕ) (line f : List ℕ) (bit : ℕ) (more : List ℕ) → scan run frame place line ≡ whole f
     → scan run frame place (line ++ (bit ∷ more)) ≡ stopped (LineLength (place + length line))
@@ -177,14 +202,16 @@ longer run frame place [] f bit more e = go (complete frame) refl e
     go true d w = rw (bit-too-many run frame place bit d) (ap (λ (p : ℕ). stopped (LineLength p)) (omega arith))
     go false d w = never (sym w)
 longer run frame place (x ∷ line) f bit more e =
-    let r = read-on run frame place x line f e in
-    rw (r .1) (longer (runWith run x) (frameWith run frame x) (place + 1) line f bit more (r .2)
-    ∙ ap (λ (p : ℕ). stopped (LineLength p)) (omega arith))
+    go (verdict run frame place x) refl e (longer (runWith run x) (frameWith run frame x) (place + 1) line f bit more)
+  where
+    at : place + 1 + length line ≡ place + suc (length line)
+    at = omega arith
 
-pub cut-short : (line frame : List ℕ) (k : ℕ) → scanned line ≡ whole frame → k < length line
-    → scanned (take k line) ≡ stopped (LineLength k)
-unfolding scanned
-cut-short line frame k e h = cut nothingSent [] 0 k line frame e h ∙ ap (λ (p : ℕ). stopped (LineLength p)) (omega arith)
+    go : (v : Verdict) → verdict run frame place x ≡ v → onward v (behind run frame place x line) ≡ whole f
+        → (behind run frame place x line ≡ whole f → behind run frame place x (line ++ (bit ∷ more)) ≡ stopped (LineLength (place + 1 + length line)))
+        → scan run frame place (x ∷ (line ++ (bit ∷ more))) ≡ stopped (LineLength (place + suc (length line)))
+    go right r d later = rw (r, ← at) (later d)
+    go (wrong q) r d later = never (sym d)
 
 pub made-longer : (line frame : List ℕ) (bit : ℕ) (more : List ℕ) → scanned line ≡ whole frame
     → scanned (line ++ (bit ∷ more)) ≡ stopped (LineLength (length line))

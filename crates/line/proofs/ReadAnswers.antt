@@ -2,16 +2,19 @@
 --     read-stopped     the first problem met is the answer, whatever the room
 --     read-whole       where the bits are right, decoding the data field decides
 --     payload-whole    and its words carry the payload
+--     answer-alone     what a lent buffer goes by is what decoding the data field answers
 --     line-only        the document's numbers tell which answer it is
-use mathlib.Core.Path.{_≡_, sym, ap, ap₂}
+use mathlib.Core.Path.{_≡_, refl, sym, ap, ap₂}
 use mathlib.Core.List.{List}
 use Prim.Native.Nat.{ℕ}
 use lib.ListN.{getD}
+use Rattle.refusals.specs.declared.Answer.{Answer}
+use Rattle.refusals.specs.declared.Answer.the-variants as answer
 use Rattle.refusals.specs.declared.Refusal.{Refusal}
 use Rattle.refusals.proofs.Table.{refusal-only, number-some}
 use Rattle.field.specs.Decode.{decodeAnswer, payloadOf}
 use Rattle.line.specs.Scan.{Scanned, whole, stopped, scanned}
-use Rattle.line.specs.Read.{identifierIn, fieldIn, withIdentifier, decoded, readAnswer, carried, payloadIn, lineNumbers}
+use Rattle.line.specs.Read.{identifierIn, fieldIn, withIdentifier, decoded, readAnswer, carried, payloadIn, answerOf, lineNumbers}
 use Rattle.line.specs.declared.Line.{Line}
 use Rattle.line.specs.declared.Line.the-variants.{Frame, Refused}
 
@@ -28,6 +31,10 @@ read-whole line frame room e = ap (λ (s : Scanned). decoded s room) e
 pub payload-whole : (line frame : List ℕ) → scanned line ≡ whole frame → payloadIn line ≡ payloadOf (fieldIn frame)
 unfolding payloadIn
 payload-whole line frame e = ap carried e
+
+pub answer-alone : (identifier : ℕ) (a : Answer) → answerOf (withIdentifier identifier a) ≡ a
+answer-alone identifier (answer.Length n) = refl
+answer-alone identifier (answer.Refused refusal) = refl
 
 pub line-only : (a b : Line) → lineNumbers a ≡ lineNumbers b → a ≡ b
 line-only (Frame i m) (Frame j n) e = ap₂ Frame (ap (λ (l : List ℕ). getD l 1 0) e) (ap (λ (l : List ℕ). getD l 2 0) e)

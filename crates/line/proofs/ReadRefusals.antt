@@ -1,7 +1,8 @@
 -- The refusals of a line. Assumes nothing.
 --     bits-refused     3 and 9 to 13 come from its bits, whatever the room
---     field-refused    2 and 4 to 7 only where all its bits are right, from decoding its data field
+--     field-refused    2 and 4 to 7 only where it is the line of a frame, the ACK slot apart, from decoding the data field of that
 --     first-problem    a line that is refused for one of its bits is refused so whatever follows that bit
+--     first-of-all     and nothing to the left of that bit is wrong
 --     cut-line         an accepted line, cut anywhere, is refused with 11 at its length
 --     longer-line      and with bits added, with 11 at the first of them
 use mathlib.Core.Path.{_≡_, refl, sym, ap, _∙_, subst}
@@ -18,17 +19,19 @@ use Rattle.refusals.specs.Table.{numberOf, placeOf}
 use Rattle.field.specs.Decode.{decodeAnswer}
 use Rattle.field.proofs.FieldParts.{LengthAllowed}
 use Rattle.field.proofs.DecodeAnswers.{OfField, decode-numbers}
+use Rattle.frame.specs.Line.{frameLine}
+use Rattle.line.specs.Ack.{withAck}
 use Rattle.line.specs.Scan.{Scanned, whole, stopped, scanned}
 use Rattle.line.specs.Read.{identifierIn, fieldIn, withIdentifier, decoded, readAnswer}
 use Rattle.line.specs.declared.Line.the-variants.{Frame, Refused}
 use Rattle.line.proofs.ReadAnswers.{read-stopped}
-use Rattle.line.proofs.FirstProblem.{OfBits, stopped-at, stopped-stays, cut-short, made-longer}
+use Rattle.line.proofs.FirstProblem.{OfBits, stopped-at, stopped-stays, cut-before, cut-short, made-longer}
 use Rattle.line.proofs.FrameOf.{field-bytes}
 use Rattle.line.proofs.RoundTrip.{line-scanned}
 
 only-field : (refusal : Refusal) → OfField (answer.Refused refusal) → OfBits refusal → ⊥
 only-field refusal h (inl three) = h .0 three
-only-field refusal h (inr above) = omega (arith, h .1)
+only-field refusal h (inr above) = omega (arith, h .1, above .0)
 
 -- where the bits are right, what decoding refuses with
 from-field : (identifier : ℕ) (a : Answer) (refusal : Refusal) → OfField a → withIdentifier identifier a ≡ Refused refusal
@@ -62,14 +65,19 @@ module _ (line : List ℕ) (room : ℕ) (refusal : Refusal) (e : readAnswer line
           absurd (decoding frame d q .0 own)
 
   pub field-refused : (OfBits refusal → ⊥)
-      → (frame : List ℕ) × (scanned line ≡ whole frame) × (decodeAnswer (fieldIn frame) room ≡ answer.Refused refusal)
+      → (identifier : ℕ) × (field : List ℕ) × (withAck 1 line ≡ frameLine identifier field) × (decodeAnswer field room ≡ answer.Refused refusal)
   unfolding readAnswer
   field-refused other = go (scanned line) refl e
     where
       go : (s : Scanned) → scanned line ≡ s → decoded s room ≡ Refused refusal
-          → (frame : List ℕ) × (scanned line ≡ whole frame) × (decodeAnswer (fieldIn frame) room ≡ answer.Refused refusal)
+          → (identifier : ℕ) × (field : List ℕ) × (withAck 1 line ≡ frameLine identifier field)
+          × (decodeAnswer field room ≡ answer.Refused refusal)
       go (stopped r) d q = let same : r ≡ refusal = cc in absurd (other (subst OfBits same (stopped-at line r d .own)))
-      go (whole frame) d q = (frame, d, decoding frame d q .1)
+      go (whole frame) d q = (identifierIn frame, fieldIn frame, line-scanned line frame d .1, decoding frame d q .1)
+
+  -- and nothing to the left of that bit is wrong
+  pub first-of-all : (k room′ : ℕ) → OfBits refusal → k < placeOf refusal → readAnswer (take k line) room′ ≡ Refused (LineLength k)
+  first-of-all k room′ own h = read-stopped (take k line) room′ (LineLength k) (cut-before line refusal k (bits-refused own) h)
 
   -- of 11 only where bits are too many
   pub first-problem : (line′ : List ℕ) (room′ : ℕ) → OfBits refusal → (numberOf refusal ≡ 11 → placeOf refusal < length line)

@@ -16,7 +16,6 @@ use native.Mathlib.Omega.{arith}
 use lib.Dec.{eqb, lit<}
 use lib.ListN.{length, take, drop, length-append}
 use lib.Seq.{take-at, drop-at}
-use borrow.Author.Tests.{le-ltb}
 use Rattle.bits.specs.Rows.{bits, number}
 use Rattle.bits.specs.Packing.{packed}
 use Rattle.bits.proofs.Packing.{packed-below, packed-unpacked}
@@ -25,6 +24,7 @@ use Rattle.field.specs.Coded.{fieldFrom}
 use Rattle.field.proofs.Coded.{from-length, from-bits}
 use Rattle.frame.specs.Header.{dataBytes}
 use Rattle.frame.specs.Crc.{crc}
+use Rattle.frame.proofs.HeaderBits.{data-bytes}
 use Rattle.line.specs.Scan.{dlcIn, crcStart, crcRight}
 use Rattle.line.specs.Read.{identifierIn, fieldIn}
 
@@ -121,7 +121,7 @@ crc-at header field = start-length header _ ∙ ap (λ (k : ℕ). 19 + k) (bits-
 pub crc-there : (header field n k : ℕ) (frame : List ℕ) → length frame ≡ 34 + 8 * (header % 16) → Fine header
     → frame ≡ bits 19 header ++ (bits (8 * (header % 16)) field ++ bits k n) → n < 2 ^ k
     → crcRight frame ≡ eqb n (crc (bits 19 header ++ bits (8 * dataBytes (header % 16)) field))
-unfolding crcStart dataBytes
+unfolding crcStart
 crc-there header field n k frame h fine e l =
     let parts = bits 19 header ++ bits (8 * (header % 16)) field in
     let split : frame ≡ parts ++ bits k n = e ∙ sym (append-assoc (bits 19 header) (bits (8 * (header % 16)) field) (bits k n)) in
@@ -131,7 +131,7 @@ crc-there header field n k frame h fine e l =
     ∙ number-low k n ∙ mod-eq-of-lt l in
     let before : take (19 + 8 * dlcIn frame) frame ≡ parts =
     ap₂ take start split ∙ take-at parts (bits k n) (19 + 8 * (header % 16)) (crc-at header field) in
-    rw (check, before, le-ltb 8 (header % 16) (fine .few)) refl
+    rw (check, before, data-bytes (header % 16) (fine .few)) refl
 
 -- ---- the whole frame
 

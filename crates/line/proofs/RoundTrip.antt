@@ -1,7 +1,9 @@
 -- Making and reading a frame undo each other, of the definitions, whatever bit stands in the ACK slot. Assumes nothing.
+--     read-frame      the line of a frame with any data field that its DLC may count is read as decoding the field answers
 --     read-made       a made line is accepted where the payload has room, and gives identifier and payload back
 --     own-ack         the maker's own bit in the ACK slot is 1
 --     Coded           a line is that of an identifier and a payload, but for the bit in the ACK slot
+--     line-scanned    a line whose bits are all right is that of a frame, but for the bit in the ACK slot
 --     accepted-is-coded    whatever reading accepts is that of the identifier and the payload that it gives
 --     accepted-below  each of its bytes is 0 or 1
 --     one-line        accepted lines that give one identifier and one payload are one, but for the bit in the ACK slot
@@ -55,19 +57,31 @@ frame-scanned identifier field ack few not-one h =
     rw (← frame-line identifier field ack few)
     (sound-whole nothingSent [] all 0 (right-sound [] all (frame-right identifier field ack few not-one h)))
 
+pub read-frame : (identifier : ℕ) (field : List ℕ) (ack room : ℕ)
+    → identifier ≤ 2047 → Below 256 field → length field ≤ 8 → (length field ≡ 1 → ⊥) → ack < 2
+    → readAnswer (withAck ack (frameLine identifier field)) room ≡ withIdentifier identifier (decodeAnswer field room)
+unfolding readAnswer
+read-frame identifier field ack room known bytes few not-one h =
+    rw (
+      frame-scanned identifier field ack few not-one h,
+      field-back identifier field ack bytes few,
+      identifier-back identifier field ack (omega arith),
+    )
+
 pub read-made : (identifier : ℕ) (payload : List ℕ) (ack room : ℕ)
     → identifier ≤ 2047 → Below 256 payload → length payload ≤ 7 → length payload ≤ room → ack < 2 →
     let line = withAck ack (payloadLine identifier payload) in
     (readAnswer line room ≡ Frame identifier (length payload)) × (payloadIn line ≡ payload)
-unfolding readAnswer payloadIn
+unfolding payloadIn
 read-made identifier payload ack room known bytes short fits h =
     let field = fieldOf payload in
     let n = field-length payload in
     let few : length field ≤ 8 = omega (arith, fieldBytes-few (length payload) short) in
-    let scan = frame-scanned identifier field ack few (λ e. fieldBytes-not-one (length payload) (sym n ∙ e)) h in
-    let back = field-back identifier field ack (field-below payload) few in (
-      rw (scan, back, identifier-back identifier field ack (omega arith), decode-encode payload room),
-      rw (scan, back) (payload-of-field payload bytes short),
+    let not-one : length field ≡ 1 → ⊥ = λ e. fieldBytes-not-one (length payload) (sym n ∙ e) in (
+      read-frame identifier field ack room known (field-below payload) few not-one h
+          ∙ ap (withIdentifier identifier) (decode-encode payload room bytes short fits),
+      rw (frame-scanned identifier field ack few not-one h, field-back identifier field ack (field-below payload) few)
+          (payload-of-field payload bytes short),
     )
 
 -- ---- read, then made

@@ -5,10 +5,10 @@
 --     stuff-bit        a stuff bit is right where it is the other bit
 --     fixed-bit        13
 --     frame-bit        a bit that may stand there is judged by what the frame then shows
---     dlc-taken, taken-dlc    a DLC is not refused exactly when it is not 1 and at most 8
+--     dlc-taken, taken-dlc    a DLC is taken exactly when it is not 1 and at most 8
 --     length-refused   3, with the fourth DLC bit
 --     crc-refused      12, with the last CRC bit
---     nothing-shown    neither of these in any other case
+--     nothing-shown    every other bit is right, and so are these two where DLC and CRC are
 use mathlib.Core.Path.{_≡_, refl}
 use mathlib.Core.Bool.{Bool, true, false, cond, not, _&&_, _||_, true≢false}
 use mathlib.Core.List.{List, [], _∷_, _++_}

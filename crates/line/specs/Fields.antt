@@ -8,23 +8,27 @@ use Rattle.line.specs.declared.fields.Field.{Field}
 abbrev pub fixed : ℕ → ℕ → Field
 fixed count bit = record { bits = count; bit = bit }
 
--- so many bits, each of them 0 or 1
+-- in the place of a bit: it may be 0 or 1
 abbrev pub either : ℕ
 either = 2
+
+-- so many bits, each of them 0 or 1
+abbrev pub free : ℕ → Field
+free count = record { bits = count; bit = either }
 
 -- the fields of a frame with n data bytes
 unfoldable pub fieldsOf : ℕ → List Field
 fieldsOf n =
     fixed 1 0  -- start of frame
-    ∷ fixed 11 either  -- identifier
+    ∷ free 11  -- identifier
     ∷ fixed 1 0  -- RTR
     ∷ fixed 1 0  -- IDE
     ∷ fixed 1 0  -- reserved bit
-    ∷ fixed 4 either  -- DLC
-    ∷ fixed (8 * n) either  -- data
-    ∷ fixed 15 either  -- CRC
+    ∷ free 4  -- DLC
+    ∷ free (8 * n)  -- data
+    ∷ free 15  -- CRC
     ∷ fixed 1 1  -- CRC delimiter
-    ∷ fixed 1 either  -- ACK slot
+    ∷ free 1  -- ACK slot
     ∷ fixed 1 1  -- ACK delimiter
     ∷ fixed 7 1  -- end bits
     ∷ []

@@ -14,7 +14,7 @@ use Rattle.frame.specs.Crc.{crc}
 use Rattle.frame.specs.Line.{stuffedCrcBits}
 use Rattle.line.specs.Fields.{either, fieldsOf, form}
 
--- the DLC among the frame's bits
+-- the DLC among the frame's bits; before the fourth of its bits is read, the number of those there are, which decides nothing yet
 unfoldable pub dlcIn : List ℕ → ℕ
 dlcIn frame = number 0 (take 4 (drop 15 frame))
 
@@ -30,7 +30,7 @@ complete frame = eqb (length frame) (crcStart frame + 25)
 unfoldable pub stuffDue : Run → List ℕ → Bool
 stuffDue run frame = eqb (run .count) 5 && leb (length frame) (crcStart frame + stuffedCrcBits)
 
--- the bit that must stand next
+-- the bit that must stand next; 2 where either may
 unfoldable pub mustBe : List ℕ → ℕ
 mustBe frame = getD (form (fieldsOf (dlcIn frame))) (length frame) either
 
@@ -53,7 +53,7 @@ shown frame place =
     (cond (eqb (length frame) (crcStart frame + 15) && not (crcRight frame)) (wrong (Crc place))
     right)
 
--- what is wrong with the bit at a place, in the order 11, 9, 10, 13, then 3 or 12
+-- what is wrong with the bit at a place, in the order 11, 9, 10, 13, then 3 or 12; 13 where the other bit must stand
 unfoldable pub verdict : Run → List ℕ → ℕ → ℕ → Verdict
 verdict run frame place bit =
     cond (complete frame) (wrong (LineLength place))

@@ -15,6 +15,7 @@ pub(crate) fn decode(seen: Seen, payload: &mut [u8]) -> Line
     ensures answer { λ r. ⌜ r ≡ withIdentifier (identifierOf seen) (decodeAnswer (fieldOf seen) (length (now (payload .entry)))) ⌝ }
     ensures memory { λ r. ⌜ now (payload .exit) ≡ after (answerOf r) (payloadOf (fieldOf seen)) (now (payload .entry)) ⌝ }
 {
+    // Behind the identifier stand seven bits: RTR, IDE, reserved bit, DLC.
     let identifier = (seen.header / 128 % 2048) as u32;
     let n = (seen.header % 16) as usize;
     match decoding::decode_number(n, seen.field, payload) {

@@ -5,13 +5,13 @@ ghost use Rattle.line.specs.Steps.{width};
 
 // A field of a frame.
 pub(crate) struct Field {
-    // How many bits it has; of the data bits, which the DLC counts, 0.
+    // How many bits it has; 0 for the data, whose bytes the DLC counts.
     pub bits: usize,
     // The bit that each of them must be; 2 where either may stand.
     pub bit: u8,
 }
 
-// How many fields there are, and which of them show more than their bits.
+// How many fields there are, and those that the code must tell from the others.
 pub(crate) const COUNT: usize = 12;
 
 pub(crate) const DLC: usize = 5;
@@ -42,7 +42,8 @@ pub(crate) fn all() -> [Field; 12]
     FIELDS
 }
 
-// How many bits a field has: the data field as many as the DLC says, at the end of the header; another what the table says.
+// How many bits a field has: the data eight for each byte that the DLC says, the header's lowest four bits; any other what the
+// table says.
 pub(crate) fn width(field: usize, bits: usize, header: u64) -> usize
     ensures { λ r. ⌜ r ≡ width field bits header ⌝ }
 {

@@ -16,7 +16,7 @@ pub(crate) struct Seen {
     pub field: u64,
 }
 
-// What is seen behind a bit or a field; or the first problem met.
+// What is seen behind a bit, a field or the whole line; or the first problem met.
 pub(crate) enum Step {
     Next(Seen),
     Refused(Refusal),
