@@ -27,29 +27,29 @@ use Rattle.line.specs.declared.fields.Field.{Field}
 use Rattle.line.specs.declared.seen.Seen.{Seen}
 use Rattle.line.specs.declared.seen.Step.{Step}
 use Rattle.line.specs.declared.seen.Step.the-variants.{Next, Refused}
-use Rattle.line.proofs.Positions.{fieldIn, startOf, endOf, end-is, next-start, Stage, before-dlc, dlc, data-bits, crc-bits, ending, stage, first-start, data-start, frame-end}
+use Rattle.line.proofs.Positions.{rowAt, startOf, endOf, end-is, next-start, Stage, before-dlc, dlc, data-bits, crc-bits, ending, stage, first-start, data-start, frame-end}
 use Rattle.line.proofs.Registers.{Fine, Registers, in-header, in-data, behind, dlc-known, dlc-read, header-put, field-put, crc-there, identifier-there, field-there}
 use Rattle.line.proofs.Verdicts.{bit-too-many, dlc-taken, taken-dlc, length-refused, crc-refused, nothing-shown}
 use Rattle.line.proofs.Keeping.{bytes, rest, pending, Between, Within}
 
 -- only the data field hangs on the DLC
-other-field : (f n : ℕ) → (f ≡ 6 → ⊥) → fieldIn f (fieldsOf n) ≡ fieldIn f (fieldsOf 0)
+other-field : (f n : ℕ) → (f ≡ 6 → ⊥) → rowAt f (fieldsOf n) ≡ rowAt f (fieldsOf 0)
 unfolding fieldsOf
 other-field f n h = getD-set-other (fieldsOf 0) 6 f (free (8 * n)) (fixed 0 0) h
 
-pub width-is : (f header : ℕ) → width f (fieldIn f (fieldsOf 0) .bits) header ≡ fieldIn f (fieldsOf (header % 16)) .bits
+pub width-is : (f header : ℕ) → width f (rowAt f (fieldsOf 0) .bits) header ≡ rowAt f (fieldsOf (header % 16)) .bits
 unfolding width fieldsOf
 width-is f header = go (eqb f 6) refl
   where
-    go : (t : Bool) → eqb f 6 ≡ t → cond t (8 * (header % 16)) (fieldIn f (fieldsOf 0) .bits) ≡ fieldIn f (fieldsOf (header % 16)) .bits
-    go true e = sym (ap (λ (k : ℕ). fieldIn k (fieldsOf (header % 16)) .bits) (eqb-true f 6 e))
+    go : (t : Bool) → eqb f 6 ≡ t → cond t (8 * (header % 16)) (rowAt f (fieldsOf 0) .bits) ≡ rowAt f (fieldsOf (header % 16)) .bits
+    go true e = sym (ap (λ (k : ℕ). rowAt k (fieldsOf (header % 16)) .bits) (eqb-true f 6 e))
     go false e = sym (ap (λ (x : Field). x .bits) (other-field f (header % 16) (eqb-false f 6 e)))
 
-pub bit-is : (f n : ℕ) → fieldIn f (fieldsOf 0) .bit ≡ fieldIn f (fieldsOf n) .bit
+pub bit-is : (f n : ℕ) → rowAt f (fieldsOf 0) .bit ≡ rowAt f (fieldsOf n) .bit
 unfolding fieldsOf
 bit-is f n = go (eqb f 6) refl
   where
-    go : (t : Bool) → eqb f 6 ≡ t → fieldIn f (fieldsOf 0) .bit ≡ fieldIn f (fieldsOf n) .bit
+    go : (t : Bool) → eqb f 6 ≡ t → rowAt f (fieldsOf 0) .bit ≡ rowAt f (fieldsOf n) .bit
     go true e = let i = eqb-true f 6 e in rw i refl
     go false e = sym (ap (λ (x : Field). x .bit) (other-field f n (eqb-false f 6 e)))
 
@@ -80,7 +80,7 @@ begun seen count =
     record { place = seen .place; run = seen .run; left = count; number = seen .number; header = seen .header; field = seen .field }
 
 pub field-begins : (line : List ℕ) (f : ℕ) (seen : Seen) (frame : List ℕ) (count : ℕ)
-    → f < 12 → count ≡ fieldIn f (fieldsOf (bytes seen)) .bits → Between line f seen frame → Within line f (begun seen count) frame
+    → f < 12 → count ≡ rowAt f (fieldsOf (bytes seen)) .bits → Between line f seen frame → Within line f (begun seen count) frame
 unfolding fieldsOf
 field-begins line f seen frame count h e b =
     record {
@@ -95,9 +95,9 @@ field-begins line f seen frame count h e b =
     end : length frame + count ≡ endOf f (bytes seen)
     end = omega (arith, b .at-is, e, end-is f (bytes seen))
 
-    some : (k : ℕ) → 0 < fieldIn k (fieldsOf (bytes seen)) .bits → count ≡ 0 → f ≡ k → ⊥
+    some : (k : ℕ) → 0 < rowAt k (fieldsOf (bytes seen)) .bits → count ≡ 0 → f ≡ k → ⊥
     some k p z i =
-        let same : fieldIn f (fieldsOf (bytes seen)) .bits ≡ fieldIn k (fieldsOf (bytes seen)) .bits = rw i refl in
+        let same : rowAt f (fieldsOf (bytes seen)) .bits ≡ rowAt k (fieldsOf (bytes seen)) .bits = rw i refl in
         omega (arith, e, same)
 
     nothing : (k : ℕ) → count ≡ k → pending k frame (seen .place) ≡ right

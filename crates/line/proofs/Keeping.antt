@@ -24,7 +24,7 @@ use Rattle.line.specs.Steps.{behindStuffBit, behindBit, dueIn, stuffBit,
 use Rattle.line.specs.declared.seen.Seen.{Seen}
 use Rattle.line.specs.declared.seen.Step.{Step}
 use Rattle.line.specs.declared.seen.Step.the-variants.{Next, Refused}
-use Rattle.line.proofs.Positions.{fieldIn, startOf, endOf, data-from, ending-from, header-end, data-end, crc-end, end-within, early-or-known, must-is, due-is, not-complete}
+use Rattle.line.proofs.Positions.{rowAt, startOf, endOf, data-from, ending-from, header-end, data-end, crc-end, end-within, early-or-known, must-is, due-is, not-complete}
 use Rattle.line.proofs.Registers.{Registers, in-header, in-data, behind, bit-added, longer, data-length, behind-length, dlc-known}
 use Rattle.line.proofs.Verdicts.{byte-above-1, sixth-bit, stuff-bit, fixed-bit, frame-bit, nothing-shown}
 
@@ -105,7 +105,7 @@ module _ (line : List ℕ) (f : ℕ) (seen : Seen) (frame : List ℕ) (h : f < 1
   missing = rw begun refl
 
   -- the bit that must stand next
-  pub must-stand : mustBe frame ≡ fieldIn f (fieldsOf (bytes seen)) .bit
+  pub must-stand : mustBe frame ≡ rowAt f (fieldsOf (bytes seen)) .bit
   must-stand = must-is f (bytes seen) frame known (w .from) to
 
   pub number-small : seen .number < 2 ^ 63

@@ -27,8 +27,9 @@ use Rattle.line.specs.Steps.{dueIn}
 use Rattle.line.specs.declared.fields.Field.{Field}
 use Rattle.line.proofs.Partial.{must-early}
 
-abbrev pub fieldIn : ℕ → List Field → Field
-fieldIn f l = getD l f (fixed 0 0)
+-- row f of a list of fields
+abbrev pub rowAt : ℕ → List Field → Field
+rowAt f l = getD l f (fixed 0 0)
 
 -- how many bits stand before the field at f
 abbrev before : ℕ → List Field → ℕ
@@ -36,7 +37,7 @@ before zero l = 0
 before (suc f) [] = 0
 before (suc f) (x ∷ l) = x .bits + before f l
 
-before-suc : (f : ℕ) (l : List Field) → before (suc f) l ≡ before f l + fieldIn f l .bits
+before-suc : (f : ℕ) (l : List Field) → before (suc f) l ≡ before f l + rowAt f l .bits
 before-suc zero [] = refl
 before-suc zero (x ∷ l) = omega arith
 before-suc (suc f) [] = refl
@@ -53,7 +54,7 @@ startOf f n = before f (fieldsOf n)
 pub endOf : ℕ → ℕ → ℕ
 endOf f n = startOf (suc f) n
 
-pub end-is : (f n : ℕ) → endOf f n ≡ startOf f n + fieldIn f (fieldsOf n) .bits
+pub end-is : (f n : ℕ) → endOf f n ≡ startOf f n + rowAt f (fieldsOf n) .bits
 unfolding startOf endOf
 end-is f n = before-suc f (fieldsOf n)
 
@@ -165,7 +166,7 @@ stage f n h = first (ltb f 5) refl
     first false e = second (eqb f 5) refl (ltb-false f 5 e)
 
 -- the bit of a field stands at each of its positions
-form-at : (f : ℕ) (l : List Field) (i : ℕ) → i < fieldIn f l .bits → getD (form l) (before f l + i) either ≡ fieldIn f l .bit
+form-at : (f : ℕ) (l : List Field) (i : ℕ) → i < rowAt f l .bits → getD (form l) (before f l + i) either ≡ rowAt f l .bit
 unfolding form
 form-at zero [] i h = absurd (omega arith)
 form-at zero (x ∷ l) i h =
@@ -188,7 +189,7 @@ module _ (f n : ℕ) (frame : List ℕ) (known : 5 < f → dlcIn frame ≡ n) wh
       go false e = inl (omega (arith, to, header-end f n (ltb-false 5 f e)))
 
   module _ (from : startOf f n ≤ length frame) (to : length frame < endOf f n) where
-    pub must-is : mustBe frame ≡ fieldIn f (fieldsOf n) .bit
+    pub must-is : mustBe frame ≡ rowAt f (fieldsOf n) .bit
     unfolding mustBe startOf
     must-is = same (early-or-known to) ∙ at
       where
@@ -199,10 +200,10 @@ module _ (f n : ℕ) (frame : List ℕ) (known : 5 < f → dlcIn frame ≡ n) wh
         same (inl e) = must-early (dlcIn frame) p e ∙ sym (must-early n p e)
         same (inr e) = ap (λ (k : ℕ). getD (form (fieldsOf k)) p either) e
 
-        at : getD (form (fieldsOf n)) p either ≡ fieldIn f (fieldsOf n) .bit
+        at : getD (form (fieldsOf n)) p either ≡ rowAt f (fieldsOf n) .bit
         at =
             let sum : startOf f n + (p - startOf f n) ≡ p = omega (arith, from) in
-            subst (λ (k : ℕ). getD (form (fieldsOf n)) k either ≡ fieldIn f (fieldsOf n) .bit) sum
+            subst (λ (k : ℕ). getD (form (fieldsOf n)) k either ≡ rowAt f (fieldsOf n) .bit) sum
             (form-at f (fieldsOf n) (p - startOf f n) (omega (arith, from, to, end-is f n)))
 
     pub due-is : (run : Run) → stuffDue run frame ≡ dueIn f run

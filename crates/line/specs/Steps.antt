@@ -1,6 +1,6 @@
 -- Reading as the code does it, by registers and field by field; no public contract cites it. Assumes nothing.
-use mathlib.Core.Path.{_≡_}
 use Prim.Native.Nat.{ℕ, _+_, _-_, _*_, _/_, _%_}
+use mathlib.Core.Path.{_≡_}
 use mathlib.Core.Bool.{Bool, false, cond, _||_}
 use mathlib.Core.List.{List, [], _∷_, _++_}
 use lib.Dec.{eqb, ltb}
@@ -100,16 +100,16 @@ fieldEnd f seen =
     cond (eqb f 5) (headerRead seen) (cond (eqb f 6) (fieldRead seen) (cond (eqb f 7) (crcRead seen) (Next seen)))
 
 -- the identifier and the data field that the registers hold
-abbrev pub identifierOf : Seen → ℕ
-identifierOf seen = seen .header / 128 % 2048
+abbrev pub identifierHeld : Seen → ℕ
+identifierHeld seen = seen .header / 128 % 2048
 
-abbrev pub fieldOf : Seen → List ℕ
-fieldOf seen = fieldFrom (seen .header % 16) (seen .field)
+abbrev pub fieldHeld : Seen → List ℕ
+fieldHeld seen = fieldFrom (seen .header % 16) (seen .field)
 
 -- they are those among the frame's bits
 pub record Holds (seen : Seen) (frame : List ℕ) : Type 0 where
-  pub identifier-is : identifierOf seen ≡ identifierIn frame
-  pub field-is : fieldOf seen ≡ fieldIn frame
+  pub identifier-is : identifierHeld seen ≡ identifierIn frame
+  pub field-is : fieldHeld seen ≡ fieldIn frame
 
 -- what scanning a line answers
 abbrev pub Reads : Step → Scanned → Type 0

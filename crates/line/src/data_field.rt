@@ -4,7 +4,7 @@ ghost use lib.ListN.{length};
 ghost use Rattle.refusals.specs.After.{after};
 ghost use Rattle.field.specs.Decode.{decodeAnswer, payloadOf};
 ghost use Rattle.line.specs.Read.{withIdentifier, answerOf};
-ghost use Rattle.line.specs.Steps.{identifierOf, fieldOf};
+ghost use Rattle.line.specs.Steps.{identifierHeld, fieldHeld};
 use crate::Line;
 use crate::seen::Seen;
 use field::decoding;
@@ -12,8 +12,8 @@ use refusals::Answer;
 
 // It is decoded, and the identifier stands beside the answer. Refused with 2 and 4 to 7.
 pub(crate) fn decode(seen: Seen, payload: &mut [u8]) -> Line
-    ensures answer { λ r. ⌜ r ≡ withIdentifier (identifierOf seen) (decodeAnswer (fieldOf seen) (length (now (payload .entry)))) ⌝ }
-    ensures memory { λ r. ⌜ now (payload .exit) ≡ after (answerOf r) (payloadOf (fieldOf seen)) (now (payload .entry)) ⌝ }
+    ensures answer { λ r. ⌜ r ≡ withIdentifier (identifierHeld seen) (decodeAnswer (fieldHeld seen) (length (now (payload .entry)))) ⌝ }
+    ensures memory { λ r. ⌜ now (payload .exit) ≡ after (answerOf r) (payloadOf (fieldHeld seen)) (now (payload .entry)) ⌝ }
 {
     // Behind the identifier stand seven bits: RTR, IDE, reserved bit, DLC.
     let identifier = (seen.header / 128 % 2048) as u32;

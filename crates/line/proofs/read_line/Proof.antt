@@ -1,9 +1,9 @@
 -- `line::read_line` meets its contract: the bits decide, and then the data field. Assumes nothing.
-use borrow.Author.Needs.{needs}
 use mathlib.Core.Path.{_≡_, refl, sym, ap, ap₂, _∙_, subst}
 use mathlib.Core.List.{List}
 use Prim.Native.Nat.{ℕ}
 use lib.ListN.{length}
+use borrow.Author.Needs.{needs}
 use Rattle.refusals.specs.After.{after}
 use Rattle.field.specs.Decode.{decodeAnswer, payloadOf}
 use Rattle.line.specs.Scan.{scanned}

@@ -1,11 +1,12 @@
 -- `line::data_field::decode` meets its contract: the answer of decoding with the identifier beside it. Assumes nothing.
+use mathlib.Core.Path.{_≡_, sym, ap, _∙_}
+use lib.ListN.{length}
 use borrow.Author.Needs.{needs}
-use mathlib.Core.Path.{sym, ap, _∙_}
 use Rattle.refusals.specs.After.{after}
 use Rattle.refusals.specs.declared.Answer.{Answer}
-use Rattle.field.specs.Decode.{payloadOf}
+use Rattle.field.specs.Decode.{decodeAnswer, payloadOf}
 use Rattle.line.specs.Read.{withIdentifier}
-use Rattle.line.specs.Steps.{fieldOf}
+use Rattle.line.specs.Steps.{identifierHeld, fieldHeld}
 use Rattle.line.proofs.data_field.decode.Statement.{statement}
 use Rattle.line.proofs.data_field.decode.Tie as tie
 
@@ -14,6 +15,20 @@ cast-identifier c = search needs
 
 decode-number-requires : tie.Need-decode-number-requires
 decode-number-requires c κs = search needs
+
+-- what decoding answered and left, in its case
+said : (c : tie.After-decode-number) (a : Answer) → c .decode-number .result ≡ a →
+    let args = c .before .before .before .before .before .args in
+    let field = fieldHeld (args .seen) in
+    (withIdentifier (identifierHeld (args .seen)) a
+    ≡ withIdentifier (identifierHeld (args .seen)) (decodeAnswer field (length (args .payload .now))))
+    × (c .decode-number .last .1 .1 .0 ≡ after a (payloadOf field) (args .payload .now))
+said c a e =
+    let args = c .before .before .before .before .before .args in
+    let said = c .decode-number .ensures in (
+      ap (withIdentifier (identifierHeld (args .seen))) (sym e ∙ said .0),
+      said .1 ∙ ap (λ (x : Answer). after x (payloadOf (fieldHeld (args .seen))) (args .payload .now)) e,
+    )
 
 enum-known-length : tie.Need-enum-known-length
 enum-known-length c = search needs
@@ -25,23 +40,13 @@ same-length : tie.Need-same-length
 same-length c = search needs
 
 returns : tie.Need-returns
-returns c =
-    let args = c .before .before .before .before .before .before .before .before .before .before .args in
-    let said = c .before .before .before .before .before .decode-number .ensures in
-    let known = c .before .length .given .1 in
-    let payload = payloadOf (fieldOf (args .seen)) in
-    (ap (withIdentifier _) (sym known ∙ said .0), said .1 ∙ ap (λ (a : Answer). after a payload (args .payload .now)) known)
+returns c = said (c .before .before .before .before .before) _ (c .before .length .given .1)
 
 same-length-2 : tie.Need-same-length-2
 same-length-2 c = search needs
 
 returns-2 : tie.Need-returns-2
-returns-2 c =
-    let args = c .before .before .before .before .before .before .before .before .before .before .args in
-    let said = c .before .before .before .before .before .decode-number .ensures in
-    let known = c .before .refusal .given .1 in
-    let payload = payloadOf (fieldOf (args .seen)) in
-    (ap (withIdentifier _) (sym known ∙ said .0), said .1 ∙ ap (λ (a : Answer). after a payload (args .payload .now)) known)
+returns-2 c = said (c .before .before .before .before .before) _ (c .before .refusal .given .1)
 
 pub decode-spec : {M : Type 1} → statement M
 decode-spec =

@@ -7,7 +7,7 @@ use lib.ListN.{length}
 use borrow.Author.Needs.{needs}
 use Rattle.line.specs.Steps.{width}
 use Rattle.line.specs.declared.fields.Field.{Field}
-use Rattle.line.proofs.Positions.{fieldIn, end-some}
+use Rattle.line.proofs.Positions.{rowAt, end-some}
 use Rattle.line.proofs.Keeping.{bytes, Between, Within, Goes, must-stand, number-small, few-enough, bit-goes}
 use Rattle.line.proofs.FieldEnds.{Ends, width-is, bit-is, line-begins, field-begins, field-ends, line-longer, line-read}
 use Rattle.line.proofs.scanning.scan.Statement.{statement}
@@ -48,7 +48,7 @@ loop-holds c =
     let h : i < 12 = omega (arith, l .inv .0) in
     let table = c .before .before .before .before .all .ensures in
     let count =
-    c .width .ensures ∙ ap (λ (rows : List Field). width i (fieldIn i rows .bits) (l .seen .header)) table ∙ width-is i (l .seen .header) in
+    c .width .ensures ∙ ap (λ (rows : List Field). width i (rowAt i rows .bits) (l .seen .header)) table ∙ width-is i (l .seen .header) in
     (h, (l .inv .1 .0, field-begins _ i (l .seen) (l .inv .1 .0) _ h count (l .inv .1 .1)))
 
 next-requires : tie.Need-next-requires Inv-loop μ-loop Inv-line μ-line
@@ -74,7 +74,7 @@ goes c =
     let some = c .before .if3 .taken in
     let must =
     must-stand line i (l .seen) (l .inv .1 .0) (l .inv .0) (l .inv .1 .1) some
-    ∙ sym (ap (λ (rows : List Field). fieldIn i rows .bit) (at .before .before .before .before .before .all .ensures) ∙ bit-is i (bytes (l .seen))) in
+    ∙ sym (ap (λ (rows : List Field). rowAt i rows .bit) (at .before .before .before .before .before .all .ensures) ∙ bit-is i (bytes (l .seen))) in
     subst (Goes line i (l .seen)) (sym (c .next .ensures))
     (bit-goes line i (l .seen) (l .inv .1 .0) (l .inv .0) (l .inv .1 .1) some _ must)
 
