@@ -208,9 +208,7 @@ module _ (line : List ℕ) (f : ℕ) (seen : Seen) (frame : List ℕ) (h : f < 1
       read (in-header g e l) = absurd (omega arith)
       read (in-data k g fine e l) =
           record {
-            leads =
-                leads right
-                (nothing-here (λ d. omega arith) (λ d. omega arith));
+            leads = leads right (nothing-here (λ d. omega arith) (λ d. omega arith));
             at-is = at ∙ next-start f (bytes seen);
             registers =
                 subst (λ (k : ℕ). Registers k (seen .header) (seen .number) 0 frame) (sym next)
@@ -230,7 +228,7 @@ module _ (line : List ℕ) (f : ℕ) (seen : Seen) (frame : List ℕ) (h : f < 1
       read (behind k g fine e l) = go (crcRight frame) refl
         where
           there : crcRight frame ≡ eqb (seen .number) (crc (bits 19 (seen .header) ++ bits (8 * dataBytes (bytes seen)) (seen .field)))
-          there = crc-there (seen .header) (seen .field) (seen .number) k frame (at ∙ end) fine e l
+          there = crc-there (seen .header) (seen .field) (seen .number) k frame fine e l
 
           last : length frame ≡ 19 + 8 * dlcIn frame + 15
           last = omega (arith, at, end, dlc-known f (seen .header) (seen .field) (seen .number) frame (w .registers) (omega arith))

@@ -1,5 +1,6 @@
 -- The first problem met is the answer: what stands to its right is not looked at. Of the scan. Assumes nothing.
 --     OfBits, Stops, stopped-at    a line is refused with 3 or 9 to 13, at one of its bits, or with 11 at its end
+--     went-on          a scan that comes to the end found each bit right
 --     stopped-stays    where it is one of its bits, it is refused so whatever follows that bit
 --     cut-short        a line that is read, cut anywhere, is refused with 11 at its length
 --     cut-before       and so is a line with a problem, cut before it: nothing to its left is wrong
@@ -52,6 +53,10 @@ verdict-at run frame place bit =
 -- a scan that stopped is not one that came to the end
 never : {A : Type 0} {frame : List ℕ} {refusal : Refusal} → whole frame ≡ stopped refusal → A
 never e = let z : _≡_ {A = ℕ} 0 1 = cc in absurd (omega arith)
+
+pub went-on : (v : Verdict) (s : Scanned) (frame : List ℕ) → onward v s ≡ whole frame → (v ≡ right) × (s ≡ whole frame)
+went-on right s frame e = (refl, e)
+went-on (wrong refusal) s frame e = never (sym e)
 
 stopped-only : {x y : Refusal} → stopped x ≡ stopped y → x ≡ y
 stopped-only e = cc
@@ -202,16 +207,9 @@ longer run frame place [] f bit more e = go (complete frame) refl e
     go true d w = rw (bit-too-many run frame place bit d) (ap (λ (p : ℕ). stopped (LineLength p)) (omega arith))
     go false d w = never (sym w)
 longer run frame place (x ∷ line) f bit more e =
-    go (verdict run frame place x) refl e (longer (runWith run x) (frameWith run frame x) (place + 1) line f bit more)
-  where
-    at : place + 1 + length line ≡ place + suc (length line)
-    at = omega arith
-
-    go : (v : Verdict) → verdict run frame place x ≡ v → onward v (behind run frame place x line) ≡ whole f
-        → (behind run frame place x line ≡ whole f → behind run frame place x (line ++ (bit ∷ more)) ≡ stopped (LineLength (place + 1 + length line)))
-        → scan run frame place (x ∷ (line ++ (bit ∷ more))) ≡ stopped (LineLength (place + suc (length line)))
-    go right r d later = rw (r, ← at) (later d)
-    go (wrong q) r d later = never (sym d)
+    let on = went-on (verdict run frame place x) (behind run frame place x line) f e in
+    let at : place + 1 + length line ≡ place + suc (length line) = omega arith in
+    rw (on .0, ← at) (longer (runWith run x) (frameWith run frame x) (place + 1) line f bit more (on .1))
 
 pub made-longer : (line frame : List ℕ) (bit : ℕ) (more : List ℕ) → scanned line ≡ whole frame
     → scanned (line ++ (bit ∷ more)) ≡ stopped (LineLength (length line))

@@ -16,8 +16,9 @@ use borrow.Author.Tests.{ne-eqb}
 use Rattle.bits.specs.declared.Run.{Run}
 use Rattle.bits.specs.Below.{Below}
 use Rattle.refusals.specs.declared.Refusal.the-variants.{LineLength}
-use Rattle.line.specs.Scan.{complete, stuffDue, Verdict, right, wrong, verdict, runWith, frameWith}
-use Rattle.line.specs.Scan.{Scanned, whole, stopped, onward, scan}
+use Rattle.line.specs.Scan.{complete, stuffDue, right, verdict, runWith, frameWith}
+use Rattle.line.specs.Scan.{whole, stopped, scan}
+use Rattle.line.proofs.FirstProblem.{went-on}
 use Rattle.line.proofs.Sound.{Next, Sound, bit-right, right-bit, stuff-right, due-no-more, right-stuff}
 
 unfoldable pub dueBits : Run → List ℕ → List ℕ
@@ -84,10 +85,6 @@ sound-whole run frame (b ∷ l) place sound =
     (sound-whole (runWith behind b) (frame ++ (b ∷ [])) l (at + 1) (sound .1) ∙ ap whole (append-assoc frame (b ∷ []) l))
 
 -- ---- and back
-
-went-on : (v : Verdict) (s : Scanned) (frame : List ℕ) → onward v s ≡ whole frame → (v ≡ right) × (s ≡ whole frame)
-went-on right s frame e = (refl, e)
-went-on (wrong refusal) s frame e = let z : _≡_ {A = ℕ} 0 1 = cc in absurd (omega arith)
 
 -- with these bits the frame goes on, and they are what the line holds
 pub record Taken (run : Run) (frame line all : List ℕ) : Type 0 where

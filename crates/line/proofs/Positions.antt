@@ -21,6 +21,7 @@ use lib.ListN.{length, getD, replicate, length-replicate, getD-replicate, List·
 use lib.Seq.{getD-append-add}
 use borrow.Author.Tests.{le-leb, lt-leb, ne-eqb, ltb-true, ltb-false, eqb-true, eqb-false}
 use Rattle.bits.specs.declared.Run.{Run}
+use Rattle.frame.specs.Line.{stuffedCrcBits}
 use Rattle.line.specs.Fields.{fixed, either, fieldsOf, form}
 use Rattle.line.specs.Scan.{dlcIn, crcStart, complete, stuffDue, mustBe}
 use Rattle.line.specs.Steps.{dueIn}
@@ -211,7 +212,7 @@ module _ (f n : ℕ) (frame : List ℕ) (known : 5 < f → dlcIn frame ≡ n) wh
     due-is run = go (ltb 7 f) refl
       where
         last : ℕ
-        last = 19 + 8 * dlcIn frame + 14
+        last = 19 + 8 * dlcIn frame + stuffedCrcBits
 
         within : f ≤ 7 → (length frame < 19) ⊎ (dlcIn frame ≡ n) → length frame ≤ last
         within g (inl e) = omega arith

@@ -118,11 +118,11 @@ field-put header n k frame h fine e =
 crc-at : (header field : ℕ) → length (bits 19 header ++ bits (8 * (header % 16)) field) ≡ 19 + 8 * (header % 16)
 crc-at header field = start-length header _ ∙ ap (λ (k : ℕ). 19 + k) (bits-length (8 * (header % 16)) field)
 
-pub crc-there : (header field n k : ℕ) (frame : List ℕ) → length frame ≡ 34 + 8 * (header % 16) → Fine header
+pub crc-there : (header field n k : ℕ) (frame : List ℕ) → Fine header
     → frame ≡ bits 19 header ++ (bits (8 * (header % 16)) field ++ bits k n) → n < 2 ^ k
     → crcRight frame ≡ eqb n (crc (bits 19 header ++ bits (8 * dataBytes (header % 16)) field))
 unfolding crcStart
-crc-there header field n k frame h fine e l =
+crc-there header field n k frame fine e l =
     let parts = bits 19 header ++ bits (8 * (header % 16)) field in
     let split : frame ≡ parts ++ bits k n = e ∙ sym (append-assoc (bits 19 header) (bits (8 * (header % 16)) field) (bits k n)) in
     let start : 19 + 8 * dlcIn frame ≡ 19 + 8 * (header % 16) = ap (λ (j : ℕ). 19 + 8 * j) (ap dlcIn e ∙ dlc-in header _) in

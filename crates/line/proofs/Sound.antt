@@ -12,11 +12,12 @@ use Prim.Native.Nat.{ℕ, _+_, _-_, _<_}
 use native.Mathlib.Omega.{arith}
 use lib.Dec.{eqb, ltb}
 use lib.ListN.{length}
-use borrow.Author.Tests.{ltb-false, le-ltb, eqb-true, eqb-false, ne-eqb, lt-leb}
+use borrow.Author.Tests.{ltb-false, eqb-true, eqb-false, lt-leb}
 use Rattle.bits.specs.declared.Run.{Run}
 use Rattle.refusals.specs.declared.Refusal.{Refusal}
 use Rattle.frame.specs.Line.{stuffedCrcBits}
 use Rattle.line.specs.Scan.{crcStart, complete, stuffDue, mustBe, dlcRefused, crcRight, shown, Verdict, right, wrong, verdict}
+use Rattle.line.proofs.Verdicts.{stuff-bit, frame-bit}
 
 abbrev pub dlcWrong : List ℕ → Bool
 dlcWrong frame = eqb (length frame) 19 && dlcRefused frame
@@ -56,8 +57,9 @@ module _ (run : Run) (frame : List ℕ) (place bit : ℕ) where
       }
 
   pub right-bit : stuffDue run frame ≡ false → Next frame bit → verdict run frame place bit ≡ right
-  unfolding verdict shown
-  right-bit due next = simp (next .more, le-ltb 1 bit (omega arith), due, next .fits, next .dlc, next .check)
+  unfolding shown
+  right-bit due next =
+      frame-bit run frame place bit (next .more) (omega (arith, next .below)) due (eqb-false _ _ (next .fits)) ∙ simp (next .dlc, next .check)
 
   pub stuff-right : stuffDue run frame ≡ true → verdict run frame place bit ≡ right → (bit < 2) × (bit ≡ run .bit → ⊥)
   unfolding verdict
@@ -82,7 +84,4 @@ module _ (run : Run) (frame : List ℕ) where
       go false e = refl
 
   pub right-stuff : (place : ℕ) → stuffDue run frame ≡ true → verdict run frame place (1 - run .bit) ≡ right
-  unfolding verdict
-  right-stuff place due =
-      let bit = 1 - run .bit in
-      simp (due-more due, le-ltb 1 bit (omega arith), due, ne-eqb bit (run .bit) (λ e. omega arith))
+  right-stuff place due = stuff-bit run frame place (1 - run .bit) (due-more due) (omega arith) due (λ e. omega arith)
