@@ -1,8 +1,10 @@
 -- The laws of lists of numbers below a bound. Assumes nothing.
 --     below-append, below-take, below-drop
 --     below-at    a list of which each number is below the bound
+--     below-more  numbers below a bound are below a higher one
 use mathlib.Core.List.{List, [], _∷_, _++_}
-use Prim.Native.Nat.{ℕ, zero, suc, _<_}
+use Prim.Native.Nat.{ℕ, zero, suc, _≤_, _<_}
+use native.Mathlib.Omega.{arith}
 use lib.ListN.{getD, take, drop}
 use Rattle.bits.specs.Below.{Below}
 
@@ -23,3 +25,7 @@ below-drop b (suc k) (x ∷ l) h = below-drop b k l (h .1)
 pub below-at : (b : ℕ) (l : List ℕ) → ((i : ℕ) → getD l i 0 < b) → Below b l
 below-at b [] h = tt
 below-at b (x ∷ l) h = (h zero, below-at b l (λ i. h (suc i)))
+
+pub below-more : (b c : ℕ) (l : List ℕ) → b ≤ c → Below b l → Below c l
+below-more b c [] h g = tt
+below-more b c (x ∷ l) h g = (omega (arith, h, g .0), below-more b c l h (g .1))

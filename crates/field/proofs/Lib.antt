@@ -13,3 +13,4 @@ pub mod Accepted
 pub mod RoundTrip
 pub mod Lengths
 pub mod FieldCalm
+pub mod Small

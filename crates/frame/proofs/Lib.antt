@@ -12,3 +12,4 @@ pub mod FrameAnswers
 pub mod BoundsAnswers
 pub mod Reported
 pub mod Examples
+pub mod Small

@@ -26,7 +26,7 @@ abbrev pub OfBits : Refusal → Type 0
 OfBits refusal = (numberOf refusal ≡ 3) ⊎ ((8 < numberOf refusal) × (numberOf refusal < 14))
 
 -- a problem is one of these, at this place
-abbrev At : ℕ → Verdict → Type 0
+abbrev pub At : ℕ → Verdict → Type 0
 At place right = Unit {0}
 At place (wrong refusal) = (placeOf refusal ≡ place) × OfBits refusal
 
@@ -43,7 +43,7 @@ tests-at place false false false d false true g = (refl, inl refl)
 tests-at place false false false d false false true = (refl, inr (lit< tt, lit< tt))
 tests-at place false false false d false false false = tt
 
-verdict-at : (run : Run) (frame : List ℕ) (place bit : ℕ) → At place (verdict run frame place bit)
+pub verdict-at : (run : Run) (frame : List ℕ) (place bit : ℕ) → At place (verdict run frame place bit)
 unfolding verdict shown
 verdict-at run frame place bit =
     let with = frame ++ (bit ∷ []) in
@@ -51,14 +51,14 @@ verdict-at run frame place bit =
     (eqb (length with) 19 && dlcRefused with) (eqb (length with) (crcStart with + 15) && not (crcRight with))
 
 -- a scan that stopped is not one that came to the end
-never : {A : Type 0} {frame : List ℕ} {refusal : Refusal} → whole frame ≡ stopped refusal → A
+pub never : {A : Type 0} {frame : List ℕ} {refusal : Refusal} → whole frame ≡ stopped refusal → A
 never e = let z : _≡_ {A = ℕ} 0 1 = cc in absurd (omega arith)
 
 pub went-on : (v : Verdict) (s : Scanned) (frame : List ℕ) → onward v s ≡ whole frame → (v ≡ right) × (s ≡ whole frame)
 went-on right s frame e = (refl, e)
 went-on (wrong refusal) s frame e = never (sym e)
 
-stopped-only : {x y : Refusal} → stopped x ≡ stopped y → x ≡ y
+pub stopped-only : {x y : Refusal} → stopped x ≡ stopped y → x ≡ y
 stopped-only e = cc
 
 -- the rest of a line behind a bit that is right

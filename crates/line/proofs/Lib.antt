@@ -18,3 +18,4 @@ pub mod FrameOf
 pub mod RoundTrip
 pub mod ReadRefusals
 pub mod Examples
+pub mod Small

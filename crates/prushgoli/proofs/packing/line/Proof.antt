@@ -1,0 +1,37 @@
+-- `prushgoli::packing::line` meets its contract. Assumes nothing.
+use mathlib.Core.Path.{_≡_, sym, ap, _∙_, subst}
+use Prim.Native.Nat.{_^_}
+use borrow.Author.Needs.{needs}
+use Rattle.bits.specs.Below.{Below}
+use Rattle.line.specs.Read.{lineNumbers}
+use Rattle.line.specs.declared.Line.{Line}
+use Rattle.prushgoli.specs.Packing.{packedLine}
+use Rattle.prushgoli.proofs.packing.line.Statement.{statement}
+use Rattle.prushgoli.proofs.packing.line.Tie as tie
+
+-- in its case
+small : (c : tie.Start) (a : Line) → c .args .line ≡ a → Below (2 ^ 16) (lineNumbers a)
+small c a e = subst (λ (x : Line). Below (2 ^ 16) (lineNumbers x)) e (c .pre)
+
+enum-known-line : tie.Need-enum-known-line
+enum-known-line c = search needs
+
+pack-requires : tie.Need-pack-requires
+pack-requires c κs = small (c .before .before .before) _ (c .before .line .given .1) .1 .1 .0
+
+enum-known-line-2 : tie.Need-enum-known-line-2
+enum-known-line-2 c = search needs
+
+refused-requires : tie.Need-refused-requires
+refused-requires c κs = small (c .before .before .before) _ (c .before .line2 .given .1) .1 .0
+
+returns : tie.Need-returns
+returns c = c .pack .ensures ∙ ap packedLine (sym (c .before .before .line .given .1))
+
+returns-2 : tie.Need-returns-2
+returns-2 c = c .refused .ensures ∙ ap packedLine (sym (c .before .before .line2 .given .1))
+
+pub line-spec : {M : Type 1} → statement M
+line-spec =
+    tie.close
+    (tie.spec enum-known-line pack-requires enum-known-line-2 refused-requires returns returns-2)

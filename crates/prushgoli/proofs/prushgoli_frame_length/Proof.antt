@@ -1,0 +1,23 @@
+-- `prushgoli::prushgoli_frame_length` meets its contract: it passes on what `frame::frame_length` answered. Assumes nothing.
+use mathlib.Core.Path.{ap, _∙_}
+use native.Mathlib.Omega.{arith}
+use borrow.Author.Needs.{needs}
+use Rattle.bits.proofs.Below.{below-at}
+use Rattle.prushgoli.specs.Packing.{packedAnswer}
+use Rattle.prushgoli.proofs.Fits.{length-fits}
+use Rattle.prushgoli.proofs.prushgoli_frame_length.Statement.{statement}
+use Rattle.prushgoli.proofs.prushgoli_frame_length.Tie as tie
+
+frame-length-requires : tie.Need-frame-length-requires
+frame-length-requires c κs = search needs
+
+answer-requires : tie.Need-answer-requires
+answer-requires c κs =
+    let payload = c .before .before .args .payload .now in
+    length-fits _ payload (below-at 256 payload (λ i. omega (arith, c .before .shared-slice-known .given i))) _ (c .frame-length .ensures)
+
+returns : tie.Need-returns
+returns c = c .answer .ensures ∙ ap packedAnswer (c .before .frame-length .ensures)
+
+pub prushgoli-frame-length-spec : {M : Type 1} → statement M
+prushgoli-frame-length-spec = tie.close (tie.spec frame-length-requires answer-requires returns)

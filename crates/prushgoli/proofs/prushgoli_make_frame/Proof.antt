@@ -1,0 +1,34 @@
+-- `prushgoli::prushgoli_make_frame` meets its contract: it passes on what `frame::make_frame` answered and left. Assumes nothing.
+use native.Mathlib.Omega.{arith}
+use borrow.Author.Needs.{needs}
+use Rattle.bits.proofs.Below.{below-at}
+use Rattle.refusals.specs.After.{after}
+use Rattle.refusals.specs.declared.Answer.{Answer}
+use Rattle.frame.specs.Answers.{payloadLine}
+use Rattle.prushgoli.specs.Packing.{packedAnswer}
+use Rattle.prushgoli.proofs.Packed.{same-packed}
+use Rattle.prushgoli.proofs.Fits.{make-fits}
+use Rattle.prushgoli.proofs.prushgoli_make_frame.Statement.{statement}
+use Rattle.prushgoli.proofs.prushgoli_make_frame.Tie as tie
+
+make-frame-requires : tie.Need-make-frame-requires
+make-frame-requires c κs = search needs
+
+answer-requires : tie.Need-answer-requires
+answer-requires c κs =
+    let payload = c .before .before .before .before .before .before .args .payload .now in
+    make-fits _ payload (below-at 256 payload (λ i. omega (arith, c .before .before .before .before .before .shared-slice-known .given i))) _ _ (c .before .before .make-frame .ensures .0)
+
+same-length : tie.Need-same-length
+same-length c = search needs
+
+returns : tie.Need-returns
+returns c =
+    let args = c .before .before .before .before .before .before .before .args in
+    let called = c .before .before .before .make-frame in
+    same-packed packedAnswer (λ (a : Answer). after a (payloadLine (args .identifier) (args .payload .now)) (args .line .now)) (called .result)
+    _ _ _ (called .ensures .0) (c .answer .ensures) (called .ensures .1)
+
+pub prushgoli-make-frame-spec : {M : Type 1} → statement M
+prushgoli-make-frame-spec =
+    tie.close (tie.spec make-frame-requires answer-requires same-length returns)

@@ -1,0 +1,32 @@
+-- One number for each answer, as C takes it. Assumes nothing.
+use Prim.Native.Nat.{ℕ, _+_, _*_, _^_}
+use Rattle.refusals.specs.declared.Answer.{Answer}
+use Rattle.refusals.specs.declared.Answer.the-variants as answer
+use Rattle.refusals.specs.declared.Refusal.{Refusal}
+use Rattle.refusals.specs.Table.{numberOf, placeOf}
+use Rattle.frame.specs.declared.Bounds.{Bounds}
+use Rattle.frame.specs.declared.Bounds.the-variants as bounds
+use Rattle.line.specs.declared.Line.{Line}
+use Rattle.line.specs.declared.Line.the-variants as line
+
+-- bits 0 to 15 a length or a place; bits 16 to 31 the refusal's number, 0 for none; bits 32 to 63 what else there is, or 0
+unfoldable pub pack : ℕ → ℕ → ℕ → ℕ
+pack low refusal high = low + refusal * 2 ^ 16 + high * 2 ^ 32
+
+-- a refusal is packed the same whatever was called
+abbrev pub packedRefusal : Refusal → ℕ
+packedRefusal refusal = pack (placeOf refusal) (numberOf refusal) 0
+
+abbrev pub packedAnswer : Answer → ℕ
+packedAnswer (answer.Length n) = pack n 0 0
+packedAnswer (answer.Refused refusal) = packedRefusal refusal
+
+-- the shorter bound is the length, the longer one stands above
+abbrev pub packedBounds : Bounds → ℕ
+packedBounds (bounds.Between least most) = pack least 0 most
+packedBounds (bounds.Refused refusal) = packedRefusal refusal
+
+-- the identifier stands above the payload's length
+abbrev pub packedLine : Line → ℕ
+packedLine (line.Frame identifier n) = pack n 0 identifier
+packedLine (line.Refused refusal) = packedRefusal refusal

@@ -1,0 +1,64 @@
+// The library as C calls it: each call under its C name, its answer packed into one number. A slice passes as pointer and length.
+ghost use mathlib.Core.Path.{_≡_};
+ghost use lib.ListN.{length};
+ghost use Rattle.refusals.specs.After.{after};
+ghost use Rattle.field.specs.Field.{fieldOf};
+ghost use Rattle.field.specs.Encode.{encodeAnswer};
+ghost use Rattle.field.specs.Decode.{decodeAnswer, payloadOf};
+ghost use Rattle.frame.specs.Answers.{payloadLine, makeAnswer, lengthAnswer, boundsAnswer};
+ghost use Rattle.line.specs.Read.{readAnswer, payloadIn, answerOf};
+ghost use Rattle.prushgoli.specs.Packing.{packedAnswer, packedBounds, packedLine};
+
+mod packing;
+
+// Codes a payload into a field.
+#[no_mangle]
+pub extern "C" fn prushgoli_encode(payload: &[u8], field: &mut [u8]) -> u64
+    ensures answer { λ r. ⌜ r ≡ packedAnswer (encodeAnswer (now (payload .entry)) (length (now (field .entry)))) ⌝ }
+    ensures memory { λ _. ⌜ now (field .exit) ≡ after (encodeAnswer (now (payload .entry)) (length (now (field .entry)))) (fieldOf (now (payload .entry))) (now (field .entry)) ⌝ }
+{
+    packing::answer(field::encode(payload, field))
+}
+
+// Decodes a field into its payload.
+#[no_mangle]
+pub extern "C" fn prushgoli_decode(field: &[u8], payload: &mut [u8]) -> u64
+    ensures answer { λ r. ⌜ r ≡ packedAnswer (decodeAnswer (now (field .entry)) (length (now (payload .entry)))) ⌝ }
+    ensures memory { λ _. ⌜ now (payload .exit) ≡ after (decodeAnswer (now (field .entry)) (length (now (payload .entry)))) (payloadOf (now (field .entry))) (now (payload .entry)) ⌝ }
+{
+    packing::answer(field::decode(field, payload))
+}
+
+// The length of the frame of an identifier and a payload.
+#[no_mangle]
+pub extern "C" fn prushgoli_frame_length(identifier: u32, payload: &[u8]) -> u64
+    ensures { λ r. ⌜ r ≡ packedAnswer (lengthAnswer identifier (now (payload .entry))) ⌝ }
+{
+    packing::answer(frame::frame_length(identifier, payload))
+}
+
+// The bounds of the length of every frame of an identifier and a size.
+#[no_mangle]
+pub extern "C" fn prushgoli_frame_bounds(identifier: u32, size: usize) -> u64
+    ensures { λ r. ⌜ r ≡ packedBounds (boundsAnswer identifier size) ⌝ }
+{
+    packing::bounds(frame::frame_bounds(identifier, size))
+}
+
+// Makes the line of the frame of an identifier and a payload.
+#[no_mangle]
+pub extern "C" fn prushgoli_make_frame(identifier: u32, payload: &[u8], line: &mut [u8]) -> u64
+    ensures answer { λ r. ⌜ r ≡ packedAnswer (makeAnswer identifier (now (payload .entry)) (length (now (line .entry)))) ⌝ }
+    ensures memory { λ _. ⌜ now (line .exit) ≡ after (makeAnswer identifier (now (payload .entry)) (length (now (line .entry)))) (payloadLine identifier (now (payload .entry))) (now (line .entry)) ⌝ }
+{
+    packing::answer(frame::make_frame(identifier, payload, line))
+}
+
+// Reads a line: the identifier and the payload of its frame.
+#[no_mangle]
+pub extern "C" fn prushgoli_read_line(line: &[u8], payload: &mut [u8]) -> u64
+    ensures answer { λ r. ⌜ r ≡ packedLine (readAnswer (now (line .entry)) (length (now (payload .entry)))) ⌝ }
+    ensures memory { λ _. ⌜ now (payload .exit) ≡ after (answerOf (readAnswer (now (line .entry)) (length (now (payload .entry))))) (payloadIn (now (line .entry))) (now (payload .entry)) ⌝ }
+{
+    packing::line(line::read_line(line, payload))
+}

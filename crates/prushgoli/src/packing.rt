@@ -1,0 +1,56 @@
+// One number for each answer: bits 0 to 15 a length or a place, bits 16 to 31 the refusal's number, from bit 32 on what else there is.
+ghost use mathlib.Core.Path.{_≡_};
+ghost use Prim.Native.Nat.{_<_, _^_};
+ghost use Rattle.bits.specs.Below.{Below};
+ghost use Rattle.refusals.specs.Table.{placeOf, answerNumbers};
+ghost use Rattle.frame.specs.Answers.{boundsNumbers};
+ghost use Rattle.line.specs.Read.{lineNumbers};
+ghost use Rattle.prushgoli.specs.Packing.{pack, packedRefusal, packedAnswer, packedBounds, packedLine};
+use frame::Bounds;
+use line::Line;
+use refusals::Answer;
+use refusals::Refusal;
+
+pub(crate) fn answer(answer: Answer) -> u64
+    requires { ⌜ Below (2 ^ 16) (answerNumbers answer) ⌝ }
+    ensures { λ r. ⌜ r ≡ packedAnswer answer ⌝ }
+{
+    match answer {
+        Answer::Length(length) => pack(length, 0, 0),
+        Answer::Refused(refusal) => refused(refusal),
+    }
+}
+
+pub(crate) fn bounds(bounds: Bounds) -> u64
+    requires { ⌜ Below (2 ^ 16) (boundsNumbers bounds) ⌝ }
+    ensures { λ r. ⌜ r ≡ packedBounds bounds ⌝ }
+{
+    match bounds {
+        Bounds::Between(least, most) => pack(least, 0, most as u32),
+        Bounds::Refused(refusal) => refused(refusal),
+    }
+}
+
+pub(crate) fn line(line: Line) -> u64
+    requires { ⌜ Below (2 ^ 16) (lineNumbers line) ⌝ }
+    ensures { λ r. ⌜ r ≡ packedLine line ⌝ }
+{
+    match line {
+        Line::Frame { identifier, length } => pack(length, 0, identifier),
+        Line::Refused(refusal) => refused(refusal),
+    }
+}
+
+fn refused(refusal: Refusal) -> u64
+    requires { ⌜ placeOf refusal < 2 ^ 16 ⌝ }
+    ensures { λ r. ⌜ r ≡ packedRefusal refusal ⌝ }
+{
+    pack(refusal.place(), refusal.number(), 0)
+}
+
+fn pack(low: usize, refusal: u8, high: u32) -> u64
+    requires { ⌜ low < 2 ^ 16 ⌝ }
+    ensures { λ r. ⌜ r ≡ pack low refusal high ⌝ }
+{
+    low as u64 + ((refusal as u64) << 16) + ((high as u64) << 32)
+}
