@@ -1,16 +1,86 @@
-# Prushgoli. `make test` is the whole gate, `make run` the project's main job.
-.PHONY: help test run
+# Prushgoli. `make test` is the whole gate, `make run` the program trace on an example, `make lib` the library for C.
+.PHONY: help test can-fail run lib install clean
+.DELETE_ON_ERROR:
+
+PREFIX = /usr/local
+TRACE = examples/first.trace
 
 help:
-	@echo 'make test   prove every crate from nothing and run every test; the last line is: N passed, 0 failed'
-	@echo 'make run    run the program trace (not there yet)'
+	@echo 'make run [TRACE=file]   report on a trace; without a file, on examples/first.trace'
+	@echo 'make lib    prove and build the library for C: libprushgoli.a, prushgoli.h and prushgoli.pc in build/'
+	@echo 'make install [PREFIX=/usr/local] [DESTDIR=]   install these three'
+	@echo 'make test   run every test and prove every crate from nothing; the last line is: N passed, 0 failed'
+	@echo 'make can-fail   show that the comparisons notice wrong programs'
+	@echo 'make clean  remove build/; what rt has proved stays'
 
+rt = command -v rt >/dev/null || { echo 'make $@: the Rattle toolchain is missing (no command rt)' >&2; exit 1; }
+
+# Last, because its closing line is the gate's, comes `rt ci`, which proves everything again, from nothing.
 test:
-	@command -v rt >/dev/null || { echo 'make test: the Rattle toolchain is missing (no command rt)' >&2; exit 1; }
+	@$(rt)
 	rt version
 	rt fmt --check
 	tests/total
+	tests/header
+	$(MAKE) lib target/bin/trace
+	tests/archive
+	tests/example
+	tests/compare/run
+	tests/trace/run
+	tests/first
 	rt ci
 
-run:
-	@echo 'The program trace is not there yet. What is proved so far: README.md. To prove it again: make test'
+can-fail: lib target/bin/trace
+	tests/compare/can-fail
+	tests/trace/can-fail
+
+# On a machine that is not x86-64 the program runs under qemu, which tests/x86-64 installs.
+run: target/bin/trace
+	@[ -r '$(TRACE)' ] || { echo 'make run: there is no trace $(TRACE)' >&2; exit 1; }
+	@if [ "$$(uname -m)" = x86_64 ]; then target/bin/trace <'$(TRACE)'; \
+	else . tests/x86-64 && $$X86_RUN target/bin/trace <'$(TRACE)'; fi
+
+# Folders are sources too, so that a file that is gone is noticed.
+SOURCES = crates.txt $(shell find crates -name must-fail -prune -o -print)
+target/bin/trace: $(SOURCES)
+	@$(rt)
+	@echo 'The program is proved before it is built: this takes a minute or two.'
+	rt check trace
+	@touch $@
+
+# From bytes in hex, with comments behind a #, to a trace; xxd is a Debian package.
+%.trace: %.hex
+	sed 's/#.*//' $< | xxd -r -p >$@
+
+lib: build/libprushgoli.a build/prushgoli.h build/prushgoli.pc
+
+# The archive gets the time at which its proof began, so that what was edited meanwhile is newer.
+build/libprushgoli.a: $(SOURCES)
+	@$(rt)
+	@mkdir -p build
+	@touch build/started
+	rt staticlib prushgoli
+	cp target/staticlib/libprushgoli.a $@
+	@touch -r build/started $@
+
+build/prushgoli.h: include/prushgoli.h
+	@mkdir -p build
+	cp $< $@
+
+# $(call pc,PREFIX,LIB,INCLUDE): the text of the .pc file, for a prefix and the folders below it.
+pc = sed -e 's|@prefix@|$(1)|' -e 's|@lib@|$(2)|' -e 's|@include@|$(3)|' prushgoli.pc.in
+
+# The one in build/ is for use from there: PKG_CONFIG_PATH=build.
+build/prushgoli.pc: prushgoli.pc.in
+	@mkdir -p build
+	$(call pc,$${pcfiledir}) >$@
+
+to = $(DESTDIR)$(PREFIX)
+install: lib
+	install -d $(to)/lib/pkgconfig $(to)/include
+	install -m 644 build/libprushgoli.a $(to)/lib
+	install -m 644 build/prushgoli.h $(to)/include
+	$(call pc,$(abspath $(PREFIX)),/lib,/include) | install -m 644 /dev/stdin $(to)/lib/pkgconfig/prushgoli.pc
+
+clean:
+	rm -rf build

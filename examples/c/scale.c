@@ -1,0 +1,104 @@
+/*
+ * A scale sends its net weight to a labeller over CAN. The firmware hands its controller a data field in 8B9B and
+ * leaves header, CRC and stuff bits to it. The controller is a stub here: one mailbox that both sides look into.
+ */
+#include <inttypes.h>
+#include <stdbool.h>
+#include <stdio.h>
+
+#include "prushgoli.h"
+
+enum { NET_WEIGHT = 0x155, WEIGHT_BYTES = 4 };
+
+/* As in the registers of a controller, or SocketCAN's struct can_frame. */
+struct mailbox {
+    uint32_t identifier;
+    uint8_t dlc;
+    uint8_t data[PRUSHGOLI_FIELD_MOST];
+};
+
+/* Every answer goes through here: a refusal is printed. */
+static bool accepted(const char *who, uint64_t answer)
+{
+    unsigned refusal = prushgoli_refusal(answer);
+    if (refusal == PRUSHGOLI_ACCEPTED)
+        return true;
+    printf("%s: refusal %u, place %u: %s\n", who, refusal, prushgoli_place(answer), prushgoli_reason(refusal));
+    return false;
+}
+
+static void print_bytes(const char *what, const uint8_t *bytes, size_t length)
+{
+    printf("%s", what);
+    for (size_t i = 0; i < length; i++)
+        printf(" %02X", bytes[i]);
+    putchar('\n');
+}
+
+/* What 100 weights a second may take of the bus, before any is known. */
+static bool plan(void)
+{
+    uint64_t answer = prushgoli_frame_bounds(NET_WEIGHT, WEIGHT_BYTES);
+    if (!accepted("plan", answer))
+        return false;
+    unsigned least = prushgoli_least(answer), most = prushgoli_most(answer);
+    printf("plan: %u to %u bits a frame, at most %u bit/s\n", least, most, most * 100);
+    return true;
+}
+
+/* The field is coded straight into the mailbox; its length is the DLC. */
+static bool send_weight(struct mailbox *box, const uint8_t *payload)
+{
+    uint64_t answer = prushgoli_encode(payload, WEIGHT_BYTES, box->data, sizeof box->data);
+    if (!accepted("scale", answer))
+        return false;
+    box->identifier = NET_WEIGHT;
+    box->dlc = (uint8_t)prushgoli_length(answer);
+    print_bytes("scale: field", box->data, box->dlc);
+    return true;
+}
+
+static bool print_label(const struct mailbox *box)
+{
+    uint8_t payload[PRUSHGOLI_PAYLOAD_MOST];
+    uint64_t answer = prushgoli_decode(box->data, box->dlc, payload, sizeof payload);
+    if (!accepted("labeller", answer))
+        return false;
+    print_bytes("labeller: payload", payload, prushgoli_length(answer));
+    if (box->identifier != NET_WEIGHT || prushgoli_length(answer) != WEIGHT_BYTES)
+        return false;
+    printf("labeller: %" PRIu32 " g\n",
+           (uint32_t)payload[0] << 24 | (uint32_t)payload[1] << 16 | (uint32_t)payload[2] << 8 | payload[3]);
+    return true;
+}
+
+/* What a recorder sees on the wire, and reads from it. */
+static bool record(const uint8_t *payload)
+{
+    uint8_t line[PRUSHGOLI_LINE_ROOM], read[PRUSHGOLI_PAYLOAD_MOST];
+    uint64_t told = prushgoli_frame_length(NET_WEIGHT, payload, WEIGHT_BYTES);
+    uint64_t made = prushgoli_make_frame(NET_WEIGHT, payload, WEIGHT_BYTES, line, sizeof line);
+    if (!accepted("wire", told) || !accepted("wire", made))
+        return false;
+    printf("wire: %u bits\nwire: ", prushgoli_length(told));
+    for (size_t i = 0; i < prushgoli_length(made); i++)
+        putchar('0' + line[i]);
+    putchar('\n');
+    uint64_t answer = prushgoli_read_line(line, prushgoli_length(made), read, sizeof read);
+    if (!accepted("recorder", answer))
+        return false;
+    printf("recorder: identifier %03" PRIX32, prushgoli_identifier(answer));
+    print_bytes(", payload", read, prushgoli_length(answer));
+    return true;
+}
+
+int main(void)
+{
+    const uint8_t payload[WEIGHT_BYTES] = {0x00, 0x00, 0x04, 0xE2}; /* 1250 g, high byte first */
+    struct mailbox box;
+    if (!plan() || !send_weight(&box, payload) || !print_label(&box) || !record(payload))
+        return 1;
+    /* A bit that flips in memory. Some would make another word, and another weight: coding does not replace a CRC. */
+    box.data[3] ^= 0x80;
+    return print_label(&box) ? 1 : 0;
+}
