@@ -1,0 +1,215 @@
+/* Compares the archive with the second program through the C interface: the whole answer, every byte of the lent
+ * buffer and of the guards around it, and what was given. An answer of document 01 that is never reached is counted
+ * as a difference. */
+#define _DEFAULT_SOURCE
+#include "compare.h"
+
+#include <prushgoli.h>
+#include <signal.h>
+#include <stdio.h>
+#include <stdlib.h>
+#include <string.h>
+#include <sys/mman.h>
+
+#include "second.h"
+
+enum { SECOND, ARCHIVE, PROGRAMS };
+enum { GUARD = 16, LENT = 128, BUFFER = GUARD + LENT + GUARD, MOST_DIFFERENCES = 10, REFUSALS = 16 };
+
+static const char *const calls[CALLS] = {"encode", "decode", "frame_length", "frame_bounds", "make_frame", "read_line"};
+
+/* What document 01 lets each call answer: a bit for each refusal number, and bit 0 for acceptance. */
+static const unsigned answers[CALLS] = {
+    [ENCODE] = 1 << 0 | 1 << 1 | 1 << 2,
+    [DECODE] = 1 << 0 | 1 << 2 | 1 << 3 | 1 << 4 | 1 << 5 | 1 << 6 | 1 << 7,
+    [FRAME_LENGTH] = 1 << 0 | 1 << 1 | 1 << 8,
+    [FRAME_BOUNDS] = 1 << 0 | 1 << 1 | 1 << 8,
+    [MAKE_FRAME] = 1 << 0 | 1 << 1 | 1 << 2 | 1 << 8,
+    [READ_LINE] = 1 << 0 | 1 << 2 | 1 << 3 | 1 << 4 | 1 << 5 | 1 << 6 | 1 << 7 | 1 << 9 | 1 << 10 | 1 << 11 | 1 << 12 |
+                  1 << 13,
+};
+
+static unsigned long comparisons, differences, reached[CALLS][REFUSALS];
+
+/* The question, and what the two programs did with it. */
+static struct question asked;
+static uint64_t answer[PROGRAMS];
+static uint8_t *given_end[PROGRAMS];
+static uint8_t old[BUFFER], buffer[PROGRAMS][BUFFER];
+
+static uint64_t random_number(void)
+{
+    static uint64_t state = 0x8B9B; /* splitmix64 */
+    uint64_t number = state += 0x9E3779B97F4A7C15;
+    number = (number ^ number >> 30) * 0xBF58476D1CE4E5B9;
+    number = (number ^ number >> 27) * 0x94D049BB133111EB;
+    return number ^ number >> 31;
+}
+
+uint64_t random_below(uint64_t bound)
+{
+    return random_number() % bound;
+}
+
+/* The end of memory behind which nothing can be touched: reading past what is given stops the run. */
+static uint8_t *guarded_end(void)
+{
+    const size_t half = 65536;
+    uint8_t *memory = mmap(NULL, 2 * half, PROT_READ | PROT_WRITE, MAP_PRIVATE | MAP_ANONYMOUS, -1, 0);
+    if (memory == MAP_FAILED || mprotect(memory + half, half, PROT_NONE) != 0) {
+        perror("compare");
+        exit(2);
+    }
+    return memory + half;
+}
+
+static uint64_t ask(int program, const uint8_t *given, uint8_t *lent)
+{
+    int archive = program == ARCHIVE;
+    switch (asked.call) {
+    case ENCODE:
+        return (archive ? prushgoli_encode : second_encode)(given, asked.claimed, lent, asked.room);
+    case DECODE:
+        return (archive ? prushgoli_decode : second_decode)(given, asked.claimed, lent, asked.room);
+    case FRAME_LENGTH:
+        return (archive ? prushgoli_frame_length : second_frame_length)(asked.identifier, given, asked.claimed);
+    case FRAME_BOUNDS:
+        return (archive ? prushgoli_frame_bounds : second_frame_bounds)(asked.identifier, asked.claimed);
+    case MAKE_FRAME:
+        return (archive ? prushgoli_make_frame : second_make_frame)(asked.identifier, given, asked.claimed, lent,
+                                                                    asked.room);
+    default:
+        return (archive ? prushgoli_read_line : second_read_line)(given, asked.claimed, lent, asked.room);
+    }
+}
+
+/* The old bytes of the buffers are the same for both, and others each time. */
+static void ask_both(void)
+{
+    for (size_t i = 0; i < BUFFER; i += sizeof(uint64_t))
+        memcpy(old + i, &(uint64_t){random_number()}, sizeof(uint64_t));
+    for (int program = 0; program < PROGRAMS; program++) {
+        uint8_t *given = asked.given == NULL ? NULL : given_end[program] - asked.there;
+        if (given != NULL)
+            memcpy(given, asked.given, asked.there);
+        memcpy(buffer[program], old, BUFFER);
+        answer[program] = ask(program, given, asked.lend_null ? NULL : buffer[program] + GUARD);
+    }
+}
+
+/* The end of the bytes that an accepted call may write; a refused one may write none. */
+static size_t result_end(void)
+{
+    int writes = asked.call != FRAME_LENGTH && asked.call != FRAME_BOUNDS;
+    return writes ? GUARD + prushgoli_length(answer[SECOND]) : GUARD;
+}
+
+static const char *what_differs(void)
+{
+    size_t end = result_end();
+    if (answer[SECOND] != answer[ARCHIVE])
+        return "the answers differ";
+    if (memcmp(buffer[SECOND], buffer[ARCHIVE], BUFFER) != 0)
+        return "the buffers differ";
+    if (memcmp(buffer[ARCHIVE], old, GUARD) != 0 || memcmp(buffer[ARCHIVE] + end, old + end, BUFFER - end) != 0)
+        return "both wrote outside the result";
+    for (int program = 0; program < PROGRAMS; program++)
+        if (asked.there > 0 && memcmp(given_end[program] - asked.there, asked.given, asked.there) != 0)
+            return "what was given was changed";
+    return NULL;
+}
+
+static void print_answer(const char *name, uint64_t packed)
+{
+    unsigned refusal = prushgoli_refusal(packed);
+    printf("  %-8s refusal %u, %s %u, identifier or longer bound %u\n", name, refusal,
+           refusal == 0 ? "length" : "place", (unsigned)(packed & 0xFFFF), (unsigned)(packed >> 32));
+}
+
+static void difference(const char *what)
+{
+    size_t i = 0;
+    printf("difference %lu: %s\n", ++differences, what);
+    printf("  %s, identifier %lu, room %zu%s, length %zu%s:", calls[asked.call], (unsigned long)asked.identifier,
+           asked.room, asked.lend_null ? " (NULL)" : "", asked.claimed, asked.given == NULL ? " (NULL)" : "");
+    for (size_t byte = 0; byte < asked.there; byte++)
+        printf(" %02X", asked.given[byte]);
+    printf("\n");
+    print_answer("second", answer[SECOND]);
+    print_answer("archive", answer[ARCHIVE]);
+    while (i < BUFFER && buffer[SECOND][i] == buffer[ARCHIVE][i])
+        i++;
+    if (i < BUFFER)
+        printf("  first differing byte of the buffer: number %d, second %02X, archive %02X, before the call %02X\n",
+               (int)i - GUARD, buffer[SECOND][i], buffer[ARCHIVE][i], old[i]);
+}
+
+static int close_comparison(void)
+{
+    printf("compare: %lu comparisons, %lu differences\n", comparisons, differences);
+    return differences == 0 ? EXIT_SUCCESS : EXIT_FAILURE;
+}
+
+static void touched(int signal_number)
+{
+    (void)signal_number;
+    difference("memory was touched that was neither given nor lent (the archive's answer is an older one)");
+    exit(close_comparison());
+}
+
+void compare(struct question question)
+{
+    if (differences >= MOST_DIFFERENCES)
+        exit(close_comparison());
+    asked = question;
+    ask_both();
+    comparisons++;
+    reached[asked.call][(answer[SECOND] >> 16) % REFUSALS]++;
+    const char *what = what_differs();
+    if (what != NULL)
+        difference(what);
+}
+
+void expect(struct question question, uint64_t expected, const uint8_t *result, size_t result_len)
+{
+    compare(question);
+    for (int program = 0; program < PROGRAMS; program++)
+        if (answer[program] != expected ||
+            (result_len > 0 && memcmp(buffer[program] + GUARD, result, result_len) != 0)) {
+            difference(program == SECOND ? "the second program is wrong" : "the archive is wrong");
+            print_answer("01 says", expected);
+        }
+}
+
+void check(int holds, const char *fact)
+{
+    comparisons++;
+    if (!holds)
+        printf("difference %lu: it does not hold that %s\n", ++differences, fact);
+}
+
+static void check_reached(void)
+{
+    for (int call = 0; call < CALLS; call++) {
+        printf("%-12s  accepted %lu, refused", calls[call], reached[call][0]);
+        for (int refusal = 0; refusal < REFUSALS; refusal++) {
+            if (refusal > 0 && reached[call][refusal] > 0)
+                printf("  %d: %lu", refusal, reached[call][refusal]);
+            if ((reached[call][refusal] > 0) != (answers[call] >> refusal & 1))
+                printf("  (difference %lu: %d is %s)", ++differences, refusal,
+                       reached[call][refusal] > 0 ? "no answer of document 01" : "never reached");
+        }
+        printf("\n");
+    }
+}
+
+int main(void)
+{
+    signal(SIGSEGV, touched);
+    for (int program = 0; program < PROGRAMS; program++)
+        given_end[program] = guarded_end();
+    ask_known();
+    ask_many();
+    check_reached();
+    return close_comparison();
+}

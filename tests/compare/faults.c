@@ -1,0 +1,129 @@
+/* Faults: stands between the comparison and the archive (the linker's --wrap) and spoils what the variable FAULT names.
+ * Only tests/compare/can-fail links it, to show that the comparison catches each of them. */
+#include <prushgoli.h>
+#include <stdlib.h>
+#include <string.h>
+
+#define ARCHIVE(call) __real_prushgoli_##call
+#define SPOILED(call) __wrap_prushgoli_##call
+
+uint64_t ARCHIVE(encode)(const uint8_t *, size_t, uint8_t *, size_t);
+uint64_t ARCHIVE(decode)(const uint8_t *, size_t, uint8_t *, size_t);
+uint64_t ARCHIVE(frame_length)(uint32_t, const uint8_t *, size_t);
+uint64_t ARCHIVE(frame_bounds)(uint32_t, size_t);
+uint64_t ARCHIVE(make_frame)(uint32_t, const uint8_t *, size_t, uint8_t *, size_t);
+uint64_t ARCHIVE(read_line)(const uint8_t *, size_t, uint8_t *, size_t);
+
+static int fault(const char *name)
+{
+    static const char *wanted;
+    if (wanted == NULL)
+        wanted = getenv("FAULT");
+    return wanted != NULL && strcmp(wanted, name) == 0;
+}
+
+/* The payload itself or, with the misprint of document 002, one where 0E stands for 10: both then have one word. */
+static const uint8_t *misprinted(const uint8_t *payload, size_t payload_len, uint8_t *copy)
+{
+    if (!fault("wrong table entry") || payload_len > PRUSHGOLI_PAYLOAD_MOST)
+        return payload;
+    for (size_t i = 0; i < payload_len; i++)
+        copy[i] = payload[i] == 0x10 ? 0x0E : payload[i];
+    return copy;
+}
+
+static size_t cut(size_t length)
+{
+    return fault("length cut to 32 bits") ? (uint32_t)length : length;
+}
+
+/* Faults that any call with two slices can have. */
+static void spoil_bytes(uint64_t answer, const uint8_t *given, size_t given_len, uint8_t *lent)
+{
+    int is_refused = prushgoli_refusal(answer) != PRUSHGOLI_ACCEPTED, some_given = given_len > 0 && given_len <= 132;
+    if (fault("byte written on refusal") && is_refused && lent != NULL)
+        lent[0] ^= 1;
+    if (fault("byte written behind the result") && !is_refused && lent != NULL)
+        lent[prushgoli_length(answer)] ^= 1;
+    if (fault("byte written before the buffer") && lent != NULL)
+        lent[-1] ^= 1;
+    if (fault("given byte changed") && some_given)
+        ((uint8_t *)given)[given_len - 1] ^= 0x80;
+    if (fault("byte read behind the given ones") && some_given)
+        (void)*(const volatile uint8_t *)(given + given_len);
+}
+
+static void spoil_payload(uint64_t answer, uint8_t *payload)
+{
+    for (size_t i = 0; i < prushgoli_length(answer) && fault("wrong reverse entry"); i++)
+        payload[i] = payload[i] == 0x0E ? 0x10 : payload[i];
+}
+
+uint64_t SPOILED(encode)(const uint8_t *payload, size_t payload_len, uint8_t *field, size_t field_room)
+{
+    uint8_t copy[PRUSHGOLI_PAYLOAD_MOST];
+    uint64_t answer = ARCHIVE(encode)(misprinted(payload, payload_len, copy), cut(payload_len), field, cut(field_room));
+    spoil_bytes(answer, payload, payload_len, field);
+    return answer;
+}
+
+uint64_t SPOILED(decode)(const uint8_t *field, size_t field_len, uint8_t *payload, size_t payload_room)
+{
+    uint8_t copy[PRUSHGOLI_PAYLOAD_MOST];
+    uint64_t answer = ARCHIVE(decode)(field, field_len, payload, payload_room);
+    spoil_bytes(answer, field, field_len, payload);
+    spoil_payload(answer, payload);
+    if (fault("break bit judged before room") && prushgoli_refusal(answer) == PRUSHGOLI_ROOM_SHORT) {
+        uint64_t with_room = ARCHIVE(decode)(field, field_len, copy, sizeof copy);
+        return prushgoli_refusal(with_room) == PRUSHGOLI_BREAK_BIT ? with_room : answer;
+    }
+    if (fault("wrong place in a field") && prushgoli_refusal(answer) == PRUSHGOLI_NO_WORD)
+        return answer + 1;
+    return answer;
+}
+
+uint64_t SPOILED(frame_length)(uint32_t identifier, const uint8_t *payload, size_t payload_len)
+{
+    uint8_t copy[PRUSHGOLI_PAYLOAD_MOST];
+    return ARCHIVE(frame_length)(identifier, misprinted(payload, payload_len, copy), payload_len);
+}
+
+uint64_t SPOILED(frame_bounds)(uint32_t identifier, size_t payload_len)
+{
+    uint64_t answer = ARCHIVE(frame_bounds)(identifier, payload_len);
+    if (fault("longer bound too long") && payload_len == 3)
+        return answer + ((uint64_t)1 << 32);
+    return answer;
+}
+
+uint64_t SPOILED(make_frame)(uint32_t identifier, const uint8_t *payload, size_t payload_len, uint8_t *line,
+                             size_t line_room)
+{
+    uint8_t copy[PRUSHGOLI_PAYLOAD_MOST];
+    size_t room = fault("frame made with room of 115") && line_room == 115 ? 116 : line_room;
+    uint64_t answer = ARCHIVE(make_frame)(identifier, misprinted(payload, payload_len, copy), payload_len, line, room);
+    spoil_bytes(answer, payload, payload_len, line);
+    return answer;
+}
+
+uint64_t SPOILED(read_line)(const uint8_t *line, size_t line_len, uint8_t *payload, size_t payload_room)
+{
+    uint64_t answer = ARCHIVE(read_line)(line, line_len, payload, payload_room);
+    unsigned refusal = prushgoli_refusal(answer), place = prushgoli_place(answer);
+    /* Where the comparison claims more bytes behind a line, they are not there. */
+    int few_behind = refusal == PRUSHGOLI_LINE_LENGTH && place < line_len && line_len - place <= 3;
+    spoil_bytes(answer, line, line_len, payload);
+    spoil_payload(answer, payload);
+    if (fault("wrong place in a line") && refusal == PRUSHGOLI_CRC)
+        return answer + 1;
+    if (fault("identifier with a refusal") && refusal == PRUSHGOLI_PADDING)
+        return answer | (uint64_t)0x555 << 32;
+    if (fault("bit of 1 behind the line taken") && few_behind && line[place] == 1)
+        return ARCHIVE(read_line)(line, place, payload, payload_room);
+    if (fault("byte above 1 behind the line judged") && few_behind && line[place] > 1)
+        return (uint64_t)PRUSHGOLI_LINE_BYTE << 16 | place;
+    if (fault("stuff bit judged before the DLC") && refusal == PRUSHGOLI_FIELD_LENGTH && place + 1 < line_len &&
+        line[place + 1] == line[place] && memcmp(line + place - 4, line + place - 3, 4) == 0)
+        return (uint64_t)PRUSHGOLI_STUFF_BIT << 16 | (place + 1);
+    return answer;
+}

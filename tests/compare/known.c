@@ -1,0 +1,134 @@
+/* Known answers: what document 01 says of words and works by hand, its decided open points, the CRC's check value. */
+#include <string.h>
+
+#include "answer.h"
+#include "compare.h"
+#include "frame.h"
+#include "words.h"
+
+struct slice {
+    uint8_t byte[160];
+    size_t length;
+};
+
+/* Hexadecimal digits, two for each byte. */
+static struct slice bytes(const char *digits)
+{
+    struct slice slice = {.length = strlen(digits) / 2};
+    for (size_t i = 0; i < 2 * slice.length; i++) {
+        int digit = digits[i] <= '9' ? digits[i] - '0' : digits[i] - 'A' + 10;
+        slice.byte[i / 2] = (uint8_t)(16 * slice.byte[i / 2] + digit);
+    }
+    return slice;
+}
+
+/* The bits of a line, one digit for each; blanks are for the eye. */
+static struct slice bits(const char *digits)
+{
+    struct slice line = {.length = 0};
+    for (; *digits != '\0'; digits++)
+        if (*digits != ' ')
+            line.byte[line.length++] = (uint8_t)(*digits - '0');
+    return line;
+}
+
+static void codes_as(const char *payload_digits, const char *field_digits)
+{
+    struct slice payload = bytes(payload_digits), field = bytes(field_digits);
+    expect(question(ENCODE, 0, payload.byte, payload.length, field.length), accepted(field.length, 0), field.byte,
+           field.length);
+    expect(question(DECODE, 0, field.byte, field.length, payload.length), accepted(payload.length, 0), payload.byte,
+           payload.length);
+}
+
+static void refuses(enum call call, struct slice given, size_t room, enum refusal refusal, size_t place)
+{
+    expect(question(call, 0, given.byte, given.length, room), refused(refusal, place), NULL, 0);
+}
+
+static void bounds(uint32_t identifier, size_t size, uint64_t answer)
+{
+    expect(question(FRAME_BOUNDS, identifier, NULL, size, 0), answer, NULL, 0);
+}
+
+/* What document 01 says of the words that the second program lists. */
+static void words(void)
+{
+    unsigned count = 0, complements = 0;
+    for (unsigned number = 0; number < 512; number++)
+        count += carried_by(number) != NOTHING;
+    for (unsigned byte = 0; byte < 256; byte++)
+        complements += (word_of_byte((uint8_t)byte) ^ word_of_byte((uint8_t)(255 - byte))) == 0x1FF;
+    check(count == 258, "there are 258 words");
+    check(complements == 256, "the word of 255 - x is the complement of the word of x");
+    check(carried_by(0x042) == ESCAPE && carried_by(0x1BD) == ESCAPE, "001000010 and 110111101 are the escapes");
+}
+
+static void fields(void)
+{
+    codes_as("F0", "EA55");
+    codes_as("00", "90D5");
+    codes_as("FF", "EF15");
+    codes_as("0E", "9555");
+    codes_as("10", "9655");
+    codes_as("74", "BA55");
+    codes_as("7F", "BD95");
+    codes_as("80", "C255");
+    codes_as("0000", "10C86A");
+    codes_as("00000000000000", "90C86432190C8643");
+    codes_as("", "");
+    refuses(ENCODE, bytes("0000000000000000"), 8, PAYLOAD_TOO_LONG, 0);
+    refuses(ENCODE, bytes("F0"), 1, ROOM_SHORT, 0);
+    refuses(DECODE, bytes("EA"), 8, WRONG_FIELD_LENGTH, 0);
+    refuses(DECODE, bytes("90C86432190C864300"), 8, WRONG_FIELD_LENGTH, 0);
+    refuses(DECODE, bytes("9095"), 8, ESCAPE_FOR_BYTE, 0);
+    refuses(DECODE, bytes("EA54"), 8, WRONG_PADDING, 0);
+    refuses(DECODE, bytes("6A55"), 8, WRONG_BREAK_BIT, 0);
+}
+
+static void frames(void)
+{
+    struct slice line = bits("00000 1 00000 1 00000 1 0000  0 1 00000 1 00000 1 0000  1 1 1 1111111");
+    expect(question(FRAME_LENGTH, 0, NULL, 0, 0), accepted(50, 0), NULL, 0);
+    expect(question(MAKE_FRAME, 0, NULL, 0, 115), refused(ROOM_SHORT, 0), NULL, 0);
+    expect(question(MAKE_FRAME, 0, NULL, 0, 116), accepted(50, 0), line.byte, 50);
+    expect(question(READ_LINE, 0, line.byte, 50, 0), accepted(0, 0), NULL, 0);
+    expect(question(READ_LINE, 0, line.byte, 51, 0), refused(WRONG_LINE_LENGTH, 50), NULL, 0);
+    line.byte[50] = 2;
+    expect(question(READ_LINE, 0, line.byte, 51, 0), refused(WRONG_LINE_LENGTH, 50), NULL, 0);
+    bounds(0x555, 1, accepted(61, 65));
+    bounds(0x555, 7, accepted(108, 112));
+    bounds(0, 1, accepted(63, 67));
+    bounds(0, 0, accepted(47, 51));
+    bounds(0x558, 0, accepted(46, 50));
+    bounds(2048, 1, refused(IDENTIFIER_TOO_LARGE, 0));
+    bounds(2048, 8, refused(IDENTIFIER_TOO_LARGE, 0));
+    bounds(0, SIZE_MAX, refused(PAYLOAD_TOO_LONG, 0));
+}
+
+static void lines(void)
+{
+    refuses(READ_LINE, bits("0 10101010100 000 1 1111 1"), 8, WRONG_FIELD_LENGTH, 19);
+    refuses(READ_LINE, bits("0 10101011000 0 0 0"), 8, SIXTH_EQUAL_BIT, 14);
+    refuses(READ_LINE, bits(""), 8, WRONG_LINE_LENGTH, 0);
+    refuses(READ_LINE, bits("0 0 0 0 0"), 8, WRONG_LINE_LENGTH, 5);
+    refuses(READ_LINE, bits("1"), 8, WRONG_FIXED_BIT, 0);
+    refuses(READ_LINE, bits("2"), 8, LINE_BYTE_ABOVE_1, 0);
+}
+
+static void crc(void)
+{
+    struct row row = {.length = 0};
+    for (const char *character = "123456789"; *character != '\0'; character++)
+        append_number(&row, (unsigned char)*character, 8);
+    check(crc_of(row) == 0x059E, "the CRC of the ASCII bytes 123456789 is 059E");
+}
+
+void ask_known(void)
+{
+    words();
+    fields();
+    frames();
+    lines();
+    crc();
+}

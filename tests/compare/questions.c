@@ -1,0 +1,301 @@
+/* The questions: all small payloads, fields, identifiers and rows of bits, and many more from a fixed seed. */
+#include "compare.h"
+#include "field.h"
+#include "frame.h"
+#include "second.h"
+
+#define COUNT(array) (sizeof(array) / sizeof *(array))
+
+/* The escapes, 001000010 and 110111101. */
+enum { J = 0x042, K = 0x1BD };
+
+/* Lengths and rooms that a number of 8, 16 or 32 bits would cut to a small one. */
+static const size_t large[] = {
+    8, 9, 20, 255, 256, 258, 65535, 65536, 65543, (size_t)1 << 31, UINT32_MAX, (size_t)1 << 32, ((size_t)1 << 32) + 2,
+    ((size_t)1 << 32) + 3, ((size_t)1 << 32) + 8, (size_t)1 << 63, SIZE_MAX - 7, SIZE_MAX,
+};
+
+/* FEW of them are identifiers, which stuff the header in many ways; the others are refused. */
+enum { FEW = 15 };
+static const uint32_t identifiers[] = {
+    0, 1, 0x00F, 0x03E, 0x07C, 0x0F8, 0x1F0, 0x3E0, 0x400, 0x555, 0x558, 0x7C0, 0x7DF, 0x7FE, 2047, 2048, 2049, 4095,
+    4096, 65535, 65536, 65541, 0x1FFFFFFF, 0x40000000, 0x80000000, 0x80000005, 0xFFFFF800, UINT32_MAX,
+};
+
+static void random_bytes(uint8_t *byte, size_t count)
+{
+    for (size_t i = 0; i < count; i++)
+        byte[i] = (uint8_t)random_below(256);
+}
+
+/* Mostly room enough for any payload. */
+static size_t random_room(void)
+{
+    return random_below(8) == 0 ? random_below(9) : 7 + random_below(3);
+}
+
+static uint32_t random_identifier(void)
+{
+    return random_below(8) == 0 ? identifiers[random_below(FEW)] : (uint32_t)random_below(2048);
+}
+
+static uint32_t random_identifier_or_more(void)
+{
+    return random_below(32) == 0 ? identifiers[random_below(COUNT(identifiers))] : random_identifier();
+}
+
+static struct row row_of(const uint8_t *byte, size_t count)
+{
+    struct row row = {.length = 0};
+    for (size_t i = 0; i < count; i++)
+        append_number(&row, byte[i], 8);
+    return row;
+}
+
+static void read_row(const struct row *line, size_t room)
+{
+    compare(question(READ_LINE, 0, line->bit, line->length, room));
+}
+
+/* All payloads of 0, 1 and 2 bytes and their fields, with room that is short, exact and more; all fields as short. */
+static void small_payloads_and_fields(void)
+{
+    for (size_t length = 0; length <= 2; length++)
+        for (unsigned number = 0; number >> 8 * length == 0; number++) {
+            uint8_t byte[2] = {(uint8_t)number, (uint8_t)(number >> 8)}, field[MOST_FIELD];
+            size_t n = field_bytes(length);
+            second_encode(byte, length, field, n);
+            for (size_t room = 0; room <= n + 1; room++)
+                compare(question(ENCODE, 0, byte, length, room));
+            for (size_t room = 0; room <= length + 1; room++)
+                compare(question(DECODE, 0, field, n, room));
+            for (size_t room = 0; room <= length; room++)
+                compare(question(DECODE, 0, byte, length, room));
+        }
+}
+
+static void change_field(uint8_t *field, size_t n)
+{
+    struct row bits = row_of(field, n);
+    size_t length = bits.length, kind = random_below(4);
+    if (kind == 0) { /* any byte */
+        bits.length = 8 * random_below(n);
+        append_number(&bits, (unsigned)random_below(256), 8);
+    } else if (kind == 1) { /* an escape for a word */
+        bits.length = 1 + 9 * random_below(n - 1);
+        append_number(&bits, random_below(2) == 0 ? J : K, 9);
+    } else {
+        bits.bit[random_below(length)] ^= 1;
+    }
+    for (size_t i = 0; i < n; i++)
+        field[i] = (uint8_t)number_at(&bits, 8 * i, 8);
+}
+
+/* Any 0 to 9 bytes or, mostly, a coded field with one to three changes. Its length is returned. */
+static size_t random_field(uint8_t *field)
+{
+    uint8_t payload[MOST_PAYLOAD];
+    size_t size = random_below(MOST_PAYLOAD + 1), n = random_below(10);
+    random_bytes(field, n);
+    if (random_below(4) == 0)
+        return n;
+    random_bytes(payload, size);
+    n = second_encode(payload, size, field, MOST_FIELD);
+    for (uint64_t changes = n == 0 ? 0 : 1 + random_below(3); changes > 0; changes--)
+        change_field(field, n);
+    return n;
+}
+
+static void random_payloads_and_fields(void)
+{
+    for (int i = 0; i < 1000000; i++) {
+        uint8_t payload[10], field[9];
+        size_t n = random_field(field), size = random_below(11);
+        uint32_t identifier = random_identifier_or_more();
+        compare(question(DECODE, 0, field, n, random_room()));
+        if (i % 10 > 0)
+            continue;
+        random_bytes(payload, size);
+        compare(question(ENCODE, 0, payload, size, random_room()));
+        compare(question(FRAME_LENGTH, identifier, payload, size, 0));
+        compare(question(MAKE_FRAME, identifier, payload, size, random_below(8) == 0 ? random_below(116) : 116));
+    }
+}
+
+/* All identifiers by all sizes, by each room that matters, and by all DLCs. */
+static void all_identifiers(void)
+{
+    for (uint32_t identifier = 0; identifier <= MOST_IDENTIFIER; identifier++) {
+        uint8_t byte[8];
+        for (size_t size = 0; size <= 8; size++) {
+            random_bytes(byte, size);
+            compare(question(FRAME_LENGTH, identifier, byte, size, 0));
+            compare(question(FRAME_BOUNDS, identifier, NULL, size, 0));
+            for (size_t room = 115; room <= 117; room++)
+                compare(question(MAKE_FRAME, identifier, byte, size, room));
+        }
+        for (size_t size = 0; size <= MOST_PAYLOAD; size++) {
+            struct row line = line_of_payload(identifier, byte, size);
+            read_row(&line, size);
+        }
+        for (unsigned dlc = 0; dlc <= 15; dlc++) {
+            struct row field = row_of(byte, dlc < 8 ? dlc : 8), line = line_of(identifier, dlc, &field);
+            read_row(&line, random_room());
+            line.length = 14 + random_below(10);
+            read_row(&line, random_room());
+        }
+    }
+}
+
+static void all_bounds(void)
+{
+    for (size_t i = 0; i < COUNT(identifiers); i++) {
+        for (size_t size = 0; size <= 20; size++)
+            compare(question(FRAME_BOUNDS, identifiers[i], NULL, size, 0));
+        for (size_t l = 0; l < COUNT(large); l++)
+            compare(question(FRAME_BOUNDS, identifiers[i], NULL, large[l], 0));
+    }
+}
+
+enum change { CUT, FLIP, FLIP_AND_CUT, SET_2, SET_255, INSERT_0, INSERT_1, DELETE, ANY_BITS_FROM_HERE, CHANGES };
+
+static struct row changed(struct row line, enum change change, size_t place)
+{
+    struct row old = line;
+    line.length = place;
+    if (change == FLIP || change == FLIP_AND_CUT)
+        append(&line, old.bit[place] ^ 1);
+    if (change == SET_2 || change == SET_255)
+        append(&line, change == SET_2 ? 2 : 255);
+    if (change == INSERT_0 || change == INSERT_1)
+        append(&line, change == INSERT_1);
+    size_t next = change == INSERT_0 || change == INSERT_1 || change == ANY_BITS_FROM_HERE ? place : place + 1;
+    if (change == CUT || change == FLIP_AND_CUT)
+        next = old.length;
+    for (size_t i = next; i < old.length; i++)
+        append(&line, change == ANY_BITS_FROM_HERE ? (int)random_below(2) : old.bit[i]);
+    return line;
+}
+
+/* A line with each room and either ACK, with bits behind it, and with every change at every place. */
+static void ask_around(const struct row *line)
+{
+    static const int behind[] = {0, 1, 2, 255};
+    struct row other_ack = changed(*line, FLIP, line->length - 9);
+    for (size_t room = 0; room <= 8; room++) {
+        read_row(line, room);
+        read_row(&other_ack, room);
+    }
+    for (size_t i = 0; i < COUNT(behind); i++) {
+        struct row longer = *line;
+        for (int count = 1; count <= 3; count++) {
+            append(&longer, behind[i]);
+            read_row(&longer, random_room());
+        }
+    }
+    for (size_t place = 0; place < line->length; place++)
+        for (int change = 0; change < CHANGES; change++) {
+            struct row other = changed(*line, change, place);
+            read_row(&other, random_room());
+        }
+}
+
+/* Lines of all sizes with payloads of 00, of FF and of any bytes. */
+static void changed_lines(void)
+{
+    for (size_t size = 0; size <= MOST_PAYLOAD; size++)
+        for (int i = 0; i < 21; i++) {
+            uint8_t payload[MOST_PAYLOAD];
+            random_bytes(payload, size);
+            for (size_t byte = 0; byte < size && i % 3 < 2; byte++)
+                payload[byte] = i % 3 == 0 ? 0x00 : 0xFF;
+            struct row line = line_of_payload(i < FEW ? identifiers[i] : random_identifier(), payload, size);
+            ask_around(&line);
+        }
+}
+
+/* Lines with a right CRC over any data field, then changed up to three times. */
+static void random_lines(void)
+{
+    for (int i = 0; i < 300000; i++) {
+        uint8_t byte[9];
+        size_t n = random_field(byte);
+        struct row field = row_of(byte, n < 8 ? n : 8), line = line_of(random_identifier(), (unsigned)n, &field);
+        read_row(&line, random_room());
+        for (uint64_t changes = random_below(4); changes > 0 && line.length > 0; changes--)
+            line = changed(line, random_below(CHANGES), random_below(line.length));
+        read_row(&line, random_room());
+    }
+}
+
+/* All rows of up to 14 bits, and rows of any bytes 0, 1 and 2. */
+static void any_rows(void)
+{
+    for (int width = 0; width <= 14; width++)
+        for (unsigned number = 0; number >> width == 0; number++) {
+            struct row line = {.length = 0};
+            append_number(&line, number, width);
+            read_row(&line, 8);
+        }
+    for (int i = 0; i < 50000; i++) {
+        struct row line = {.length = 0};
+        for (uint64_t length = random_below(130); line.length < length;)
+            append(&line, (int)random_below(3));
+        read_row(&line, random_room());
+    }
+}
+
+/* Lengths that are only claimed, where the call refuses before it reads that far, and rooms that are only claimed. */
+static void large_numbers(void)
+{
+    static const uint8_t byte[8] = {0x90, 0xC8, 0x64, 0x32, 0x19, 0x0C, 0x86, 0x43};
+    struct row field = row_of(byte, 8), line = line_of(0x555, 8, &field);
+    for (size_t l = 0; l < COUNT(large); l++) {
+        size_t claimed = large[l], longer = claimed > SIZE_MAX / 2 ? claimed : line.length + claimed;
+        for (uint32_t identifier = 2047; identifier <= 2048; identifier++) {
+            compare((struct question){FRAME_LENGTH, identifier, byte, 8, claimed, 0, 0});
+            compare((struct question){MAKE_FRAME, identifier, byte, 8, claimed, 116, 0});
+            compare((struct question){MAKE_FRAME, identifier, byte, 8, claimed, 0, 0});
+            compare(question(MAKE_FRAME, identifier, byte, 7, claimed));
+        }
+        compare((struct question){ENCODE, 0, byte, 8, claimed, 8, 0});
+        compare((struct question){ENCODE, 0, byte, 8, claimed, 0, 0});
+        compare(question(ENCODE, 0, byte, 7, claimed));
+        if (claimed > MOST_FIELD)
+            compare((struct question){DECODE, 0, byte, 8, claimed, 8, 0});
+        compare(question(DECODE, 0, byte, 8, claimed));
+        compare((struct question){READ_LINE, 0, line.bit, line.length, longer, 8, 0});
+        compare(question(READ_LINE, 0, line.bit, line.length, claimed));
+    }
+}
+
+/* NULL for what is given, for the lent buffer, and for both. */
+static void nulls(void)
+{
+    static const uint8_t byte[2] = {0xEA, 0x55};
+    struct row field = row_of(byte, 2), empty = {.length = 0}, line = line_of(0, 2, &field);
+    struct row empty_line = line_of(0, 0, &empty);
+    for (int call = 0; call < CALLS; call++)
+        for (int lend_null = 0; lend_null <= 1; lend_null++) {
+            size_t room = lend_null ? 0 : 116;
+            compare((struct question){call, 0, NULL, 0, 0, room, lend_null});
+            compare((struct question){call, 0, byte, 0, 0, room, lend_null});
+            compare((struct question){call, 0, byte, 2, 2, room, lend_null});
+            compare((struct question){call, 2048, NULL, 0, 0, room, lend_null});
+        }
+    compare((struct question){READ_LINE, 0, line.bit, line.length, line.length, 0, 1});
+    compare((struct question){READ_LINE, 0, empty_line.bit, empty_line.length, empty_line.length, 0, 1});
+}
+
+void ask_many(void)
+{
+    nulls();
+    large_numbers();
+    all_bounds();
+    all_identifiers();
+    any_rows();
+    changed_lines();
+    small_payloads_and_fields();
+    random_payloads_and_fields();
+    random_lines();
+}

@@ -1,0 +1,87 @@
+/* Reading a line: its bits from the left, keeping those that are no stuff bits; the first problem met is the answer. */
+#include "answer.h"
+#include "field.h"
+#include "frame.h"
+#include "second.h"
+
+/* The bits of the header by number, stuff bits not counted. */
+enum { START_OF_FRAME = 0, IDENTIFIER = 1, RTR = 12, IDE = 13, RESERVED = 14, DLC = 15, LAST_DLC_BIT = 18 };
+
+/* The field bytes n; while the DLC is not read, the most there can be. */
+static size_t dlc_of(const struct row *bits)
+{
+    return bits->length < HEADER ? MOST_FIELD : number_at(bits, DLC, 4);
+}
+
+/* The number of the last CRC bit, stuff bits not counted. */
+static size_t last_crc_bit(const struct row *bits)
+{
+    return HEADER + 8 * dlc_of(bits) + CRC - 1;
+}
+
+static int crc_differs(const struct row *bits)
+{
+    struct row covered = *bits;
+    covered.length = HEADER + 8 * dlc_of(bits);
+    return crc_of(covered) != number_at(bits, covered.length, CRC);
+}
+
+/* The refusal that the newest of these bits brings by what it means: 13, 3 or 12. */
+static enum refusal newest_refusal(const struct row *bits)
+{
+    size_t n = dlc_of(bits), newest = bits->length - 1, crc_end = last_crc_bit(bits), ack_slot = crc_end + 2;
+    int bit = bits->bit[newest];
+    if (newest == START_OF_FRAME || newest == RTR || newest == IDE || newest == RESERVED)
+        return bit == 0 ? NO_REFUSAL : WRONG_FIXED_BIT;
+    if (newest == LAST_DLC_BIT)
+        return n == 1 || n > MOST_FIELD ? WRONG_FIELD_LENGTH : NO_REFUSAL;
+    if (newest == crc_end)
+        return crc_differs(bits) ? CRC_DIFFERS : NO_REFUSAL;
+    if (newest > crc_end && newest != ack_slot)
+        return bit == 1 ? NO_REFUSAL : WRONG_FIXED_BIT;
+    return NO_REFUSAL;
+}
+
+/* A stuff bit is due after five equal bits, but not after the last CRC bit. */
+static int stuff_bit_due(const struct row *bits, const uint8_t *line, size_t place)
+{
+    return place >= 5 && all_equal(line + place - 5, 5) && bits->length <= last_crc_bit(bits);
+}
+
+/* Looks at one place of the line; a bit that is no stuff bit is kept. */
+static enum refusal look_at(struct row *bits, const uint8_t *line, size_t line_len, size_t place)
+{
+    if (place == line_len)
+        return WRONG_LINE_LENGTH;
+    if (line[place] > 1)
+        return LINE_BYTE_ABOVE_1;
+    if (stuff_bit_due(bits, line, place))
+        return line[place] == line[place - 1] ? SIXTH_EQUAL_BIT : NO_REFUSAL;
+    append(bits, line[place]);
+    return newest_refusal(bits);
+}
+
+static uint64_t decode_data(const struct row *bits, uint8_t *payload, size_t payload_room)
+{
+    uint8_t field[MOST_FIELD];
+    size_t n = dlc_of(bits);
+    for (size_t i = 0; i < n; i++)
+        field[i] = (uint8_t)number_at(bits, HEADER + 8 * i, 8);
+    return second_decode(field, n, payload, payload_room);
+}
+
+uint64_t second_read_line(const uint8_t *line, size_t line_len, uint8_t *payload, size_t payload_room)
+{
+    struct row bits = {.length = 0};
+    size_t place = 0;
+    for (; bits.length <= last_crc_bit(&bits) + UNSTUFFED; place++) {
+        enum refusal refusal = look_at(&bits, line, line_len, place);
+        if (refusal != NO_REFUSAL)
+            return refused(refusal, place);
+    }
+    if (place < line_len)
+        return refused(WRONG_LINE_LENGTH, place);
+    uint64_t answer = decode_data(&bits, payload, payload_room);
+    int is_accepted = answer >> 16 == 0;
+    return is_accepted ? accepted(answer, number_at(&bits, IDENTIFIER, 11)) : answer;
+}
