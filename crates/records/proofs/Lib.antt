@@ -1,0 +1,2 @@
+pub mod KindBytes
+pub mod Records

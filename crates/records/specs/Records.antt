@@ -1,0 +1,37 @@
+-- The records of a trace. Assumes nothing.
+use Prim.Native.Nat.{ℕ, _+_, _-_, min}
+use mathlib.Core.Bool.{cond, _&&_}
+use mathlib.Core.List.{List}
+use lib.Dec.{leb, ltb}
+use lib.ListN.{length, getD, take, drop}
+use Rattle.refusals.specs.declared.Refusal.the-variants as refusal
+use Rattle.records.specs.declared.Record.{Record}
+use Rattle.records.specs.declared.Record.the-variants.{Payload, Field, End, Refused}
+use Rattle.records.specs.declared.kinds.Kind.{Kind}
+use Rattle.records.specs.declared.kinds.Kind.the-variants as kind
+
+-- a trace has at most this many bytes; later ones are as if absent
+abbrev pub mostBytes : ℕ
+mostBytes = 65536
+
+-- kinds 10 to 18 hex: a payload of 0 to 8 bytes; kinds 20 to 29 hex: a data field of 0 to 9 bytes
+unfoldable pub kindOf : ℕ → Kind
+kindOf byte =
+    cond (leb 0x10 byte && leb byte 0x18) (kind.Payload (byte - 0x10))
+    (cond (leb 0x20 byte && leb byte 0x29) (kind.Field (byte - 0x20))
+    kind.Unknown)
+
+-- a record, of which this many bytes are left for the body; 14 at its kind byte where the body is cut, or the kind unknown
+abbrev pub recordOf : Kind → ℕ → ℕ → Record
+recordOf (kind.Payload body) left offset = cond (ltb left body) (Refused (refusal.Record offset)) (Payload body)
+recordOf (kind.Field body) left offset = cond (ltb left body) (Refused (refusal.Record offset)) (Field body)
+recordOf kind.Unknown left offset = Refused (refusal.Record offset)
+
+unfoldable pub recordAt : List ℕ → ℕ → Record
+recordAt trace offset =
+    let end = min (length trace) mostBytes in
+    cond (leb end offset) End (recordOf (kindOf (getD trace offset 0)) (end - offset - 1) offset)
+
+-- the body of a record, behind its kind byte
+unfoldable pub bodyAt : List ℕ → ℕ → ℕ → List ℕ
+bodyAt trace offset body = take body (drop (offset + 1) trace)
