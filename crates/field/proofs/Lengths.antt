@@ -1,6 +1,7 @@
--- An accepted answer's length is what the table says. Assumes nothing.
+-- An accepted answer's length is what the table says, and that of the result. Assumes nothing.
 --     encode-length    the field has the bytes of the payload's row
 --     decode-length    the field had the bytes of the row of the payload that it gives
+--     encode-result, decode-result    it is how many bytes the result has
 use mathlib.Core.Path.{_≡_, refl, sym, ap, _∙_}
 use mathlib.Core.Bool.{Bool, true, false, cond}
 use mathlib.Core.List.{List}
@@ -15,10 +16,13 @@ use Rattle.refusals.specs.declared.Refusal.the-variants.{PayloadTooLong, RoomSh
 use Rattle.refusals.proofs.Answers.{never-both, one-length}
 use Rattle.field.specs.Sizes.{fieldBytes}
 use Rattle.field.specs.Table.{rowOf, rows}
+use Rattle.field.specs.Field.{fieldOf}
 use Rattle.field.specs.Encode.{encodeAnswer}
-use Rattle.field.specs.Decode.{decodeAnswer}
+use Rattle.field.specs.Decode.{decodeAnswer, payloadOf}
 use Rattle.field.specs.declared.table.Row.{Row}
 use Rattle.field.proofs.Sizes.{fieldBytes-back}
+use Rattle.field.proofs.FieldBits.{field-length}
+use Rattle.field.proofs.FieldParts.{payload-length}
 use Rattle.field.proofs.Accepted.{accepted}
 
 row-bytes : (size : ℕ) → size < 8 → getD rows size (rowOf 0) .bytes ≡ fieldBytes size
@@ -44,3 +48,17 @@ decode-length field room n e =
     let a = accepted field room n e in
     let allowed = a .begun .allowed in
     sym (row-bytes n (omega (arith, a .size-is, allowed .at-most)) ∙ ap fieldBytes (a .size-is) ∙ fieldBytes-back (length field) (allowed .not-one))
+
+pub encode-result : (payload : List ℕ) (room n : ℕ) → encodeAnswer payload room ≡ Length n → n ≡ length (fieldOf payload)
+unfolding encodeAnswer
+encode-result payload room n e = go (ltb 7 (length payload)) (ltb room (fieldBytes (length payload))) e
+  where
+    go : (long short : Bool)
+        → cond long (Refused PayloadTooLong) (cond short (Refused RoomShort) (Length (fieldBytes (length payload)))) ≡ Length n
+        → n ≡ length (fieldOf payload)
+    go true short q = absurd (never-both q)
+    go false true q = absurd (never-both q)
+    go false false q = sym (field-length payload ∙ one-length q)
+
+pub decode-result : (field : List ℕ) (room n : ℕ) → decodeAnswer field room ≡ Length n → n ≡ length (payloadOf field)
+decode-result field room n e = accepted field room n e .size-is ∙ sym (payload-length field)

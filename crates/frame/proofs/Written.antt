@@ -1,5 +1,4 @@
 -- The laws of writing bits into a line. Assumes nothing.
---     sets-append         two rows written one behind the other
 --     written-length      a line is as long as it was
 --     written-no-stuff    a bit is written that no stuff bit follows
 --     written-one-stuff   a bit is written with its stuff bit
@@ -8,8 +7,8 @@
 --     written-behind      two rows are written one behind the other, with their stuff bits
 --     written-line        a row is written from the start of a line on, and bits that are not stuffed behind it
 use mathlib.Core.Path.{_≡_, refl, sym, ap, _∙_}
-use mathlib.Core.List.{List, [], _∷_, _++_}
-use Prim.Native.Nat.{ℕ, suc, _+_, _-_, _≤_, _<_}
+use mathlib.Core.List.{List, _∷_, _++_}
+use Prim.Native.Nat.{ℕ, _+_, _-_, _≤_, _<_}
 use native.Mathlib.Nat.{zero-add}
 use native.Mathlib.Numerals.{add-one}
 use native.Mathlib.Omega.{arith}
@@ -18,15 +17,11 @@ use lib.Seq.{sets, length-sets, sets-eq}
 use Rattle.bits.specs.declared.Run.{Run}
 use Rattle.bits.specs.Rows.{bits}
 use Rattle.bits.specs.Stuffing.{nothingSent, stuffAfter, runAfter, stuffed, runAfterRow}
+use Rattle.bits.proofs.Filling.{sets-append}
 use Rattle.bits.proofs.Stuffing.{no-stuff, one-stuff, runAfterRow-append, stuffed-append}
 use Rattle.frame.specs.declared.writing.Spot.{Spot}
 use Rattle.frame.specs.Writing.{Written}
 use Rattle.frame.proofs.NextBit.{nextBit, runAfterRow-next, stuffed-next}
-
-pub sets-append : (l : List ℕ) (i : ℕ) (xs ys : List ℕ) → sets l i (xs ++ ys) ≡ sets (sets l i xs) (i + length xs) ys
-sets-append l i [] ys = ap (λ (n : ℕ). sets l n ys) (omega arith)
-sets-append l i (x ∷ xs) ys =
-    sets-append (set l i x) (suc i) xs ys ∙ ap (λ (n : ℕ). sets (sets (set l i x) (suc i) xs) n ys) (omega arith)
 
 pub written-length : {spot : Spot} {sent : List ℕ} {behind : Run} {before line : List ℕ} {next : Spot}
     → Written spot sent behind before line next → length line ≡ length before

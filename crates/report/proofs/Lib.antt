@@ -1,0 +1,6 @@
+pub mod Wrote
+pub mod Decimal
+pub mod HexBytes
+pub mod Outcomes
+pub mod Reports
+pub mod Examples
