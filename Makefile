@@ -1,6 +1,8 @@
 # Prushgoli. `make test` is the whole gate, `make run` the program trace on an example, `make lib` the library for C.
 .PHONY: help test can-fail run lib install clean
 .DELETE_ON_ERROR:
+# Two runs of rt would share target/.
+.NOTPARALLEL:
 
 PREFIX = /usr/local
 TRACE = examples/first.trace

@@ -23,7 +23,8 @@
  *     the start of the buffer; those after them keep their values.
  *   - A slice is a pointer and a length. With length 0 the pointer is never used and may be NULL.
  *   - The two slices of a call must not overlap: nothing can be coded in place.
- *   - The answer is all there is: no errno, no heap, no global state. Calls are re-entrant, from interrupts too.
+ *   - The answer is all there is: no errno, no heap, no global state. Calls are re-entrant. A call takes less than 2 KB
+ *     of stack and uses vector registers: an interrupt handler that calls one has to save these.
  */
 #ifndef PRUSHGOLI_H
 #define PRUSHGOLI_H

@@ -1,5 +1,5 @@
 -- Packing loses nothing. Assumes nothing.
---     low-back, refusal-back, high-back    each part of a packed number is got back from it
+--     low-back, number-back, high-back    each part of a packed number is got back from it
 --     answer-packs, bounds-pack, line-packs    an answer is packed into a number that tells which answer it was
 --     same-packed    a call that passes an answer on says what that answer says
 use mathlib.Core.Path.{_≡_, sym, ap, ap₂, _∙_}
@@ -27,9 +27,9 @@ module _ (low refusal high : ℕ) (l : low < 2 ^ 16) where
   low-back = omega arith
 
   module _ (r : refusal < 2 ^ 16) where
-    pub refusal-back : pack low refusal high / 2 ^ 16 % 2 ^ 16 ≡ refusal
+    pub number-back : pack low refusal high / 2 ^ 16 % 2 ^ 16 ≡ refusal
     unfolding pack
-    refusal-back = omega arith
+    number-back = omega arith
 
     pub high-back : pack low refusal high / 2 ^ 32 ≡ high
     unfolding pack
@@ -39,7 +39,7 @@ pub pack-only : (l r h l′ r′ h′ : ℕ) → l < 2 ^ 16 → r < 2 ^ 16 → l
     → (l ≡ l′) × (r ≡ r′) × (h ≡ h′)
 pack-only l r h l′ r′ h′ a b a′ b′ e = (
   sym (low-back l r h a) ∙ ap (λ (n : ℕ). n % 2 ^ 16) e ∙ low-back l′ r′ h′ a′,
-  sym (refusal-back l r h a b) ∙ ap (λ (n : ℕ). n / 2 ^ 16 % 2 ^ 16) e ∙ refusal-back l′ r′ h′ a′ b′,
+  sym (number-back l r h a b) ∙ ap (λ (n : ℕ). n / 2 ^ 16 % 2 ^ 16) e ∙ number-back l′ r′ h′ a′ b′,
   sym (high-back l r h a b) ∙ ap (λ (n : ℕ). n / 2 ^ 32) e ∙ high-back l′ r′ h′ a′ b′,
 )
 

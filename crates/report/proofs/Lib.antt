@@ -3,4 +3,5 @@ pub mod Decimal
 pub mod HexBytes
 pub mod Outcomes
 pub mod Reports
+pub mod WholeReport
 pub mod Examples
