@@ -29,19 +29,22 @@ row-bytes : (size : ℕ) → size < 8 → getD rows size (rowOf 0) .bytes ≡ fi
 unfolding rows
 row-bytes size h = ap (λ (r : Row). r .bytes) (numbers-at rowOf (rowOf 0) 8 size h)
 
-pub encode-length : (payload : List ℕ) (room n : ℕ) → encodeAnswer payload room ≡ Length n → n ≡ getD rows (length payload) (rowOf 0) .bytes
+-- an accepted payload is short, and the length is that of its field
+encode-size : (payload : List ℕ) (room n : ℕ) → encodeAnswer payload room ≡ Length n → (length payload ≤ 7) × (fieldBytes (length payload) ≡ n)
 unfolding encodeAnswer
-encode-length payload room n e = go (ltb 7 (length payload)) refl (ltb room (fieldBytes (length payload))) e
+encode-size payload room n e = go (ltb 7 (length payload)) refl (ltb room (fieldBytes (length payload))) e
   where
     go : (long : Bool) → ltb 7 (length payload) ≡ long → (short : Bool)
         → cond long (Refused PayloadTooLong) (cond short (Refused RoomShort) (Length (fieldBytes (length payload)))) ≡ Length n
-        → n ≡ getD rows (length payload) (rowOf 0) .bytes
+        → (length payload ≤ 7) × (fieldBytes (length payload) ≡ n)
     go true p short q = absurd (never-both q)
     go false p true q = absurd (never-both q)
-    go false p false q =
-        let bytes : fieldBytes (length payload) ≡ n = one-length q in
-        let few : length payload ≤ 7 = ltb-false 7 (length payload) p in
-        sym (row-bytes (length payload) (omega arith) ∙ bytes)
+    go false p false q = (ltb-false 7 (length payload) p, one-length q)
+
+pub encode-length : (payload : List ℕ) (room n : ℕ) → encodeAnswer payload room ≡ Length n → n ≡ getD rows (length payload) (rowOf 0) .bytes
+encode-length payload room n e =
+    let size = encode-size payload room n e in
+    sym (row-bytes (length payload) (omega (arith, size .0)) ∙ size .1)
 
 pub decode-length : (field : List ℕ) (room n : ℕ) → decodeAnswer field room ≡ Length n → length field ≡ getD rows n (rowOf 0) .bytes
 decode-length field room n e =
@@ -50,15 +53,7 @@ decode-length field room n e =
     sym (row-bytes n (omega (arith, a .size-is, allowed .at-most)) ∙ ap fieldBytes (a .size-is) ∙ fieldBytes-back (length field) (allowed .not-one))
 
 pub encode-result : (payload : List ℕ) (room n : ℕ) → encodeAnswer payload room ≡ Length n → n ≡ length (fieldOf payload)
-unfolding encodeAnswer
-encode-result payload room n e = go (ltb 7 (length payload)) (ltb room (fieldBytes (length payload))) e
-  where
-    go : (long short : Bool)
-        → cond long (Refused PayloadTooLong) (cond short (Refused RoomShort) (Length (fieldBytes (length payload)))) ≡ Length n
-        → n ≡ length (fieldOf payload)
-    go true short q = absurd (never-both q)
-    go false true q = absurd (never-both q)
-    go false false q = sym (field-length payload ∙ one-length q)
+encode-result payload room n e = sym (field-length payload ∙ encode-size payload room n e .1)
 
 pub decode-result : (field : List ℕ) (room n : ℕ) → decodeAnswer field room ≡ Length n → n ≡ length (payloadOf field)
 decode-result field room n e = accepted field room n e .size-is ∙ sym (payload-length field)

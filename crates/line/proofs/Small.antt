@@ -1,6 +1,6 @@
--- How large the numbers of an answer are, of a line: refusal's number, identifier and length, and place. Between two of a frame's bits
--- stands at most one stuff bit, and a frame has at most 108 bits: no place is above 216, however long the line. Assumes nothing.
---     read-small    each is at most 2047
+-- How large the numbers of an answer are, of a line: refusal's number, and length or place. Between two of a frame's bits stands at
+-- most one stuff bit, and a frame has at most 108 bits: no place is above 216, however long the line. Assumes nothing.
+--     read-small    each is at most 216
 use mathlib.Core.Path.{_≡_, refl, ap, _∙_}
 use mathlib.Core.Bool.{Bool, true, false, cond, _&&_}
 use mathlib.Core.List.{List, [], _∷_, _++_}
@@ -22,7 +22,7 @@ use Rattle.refusals.proofs.Table.{number-in-table}
 use Rattle.field.specs.Decode.{decodeAnswer}
 use Rattle.field.proofs.Small.{decode-small}
 use Rattle.line.specs.Scan.{dlcIn, crcStart, complete, stuffDue, Verdict, right, wrong, verdict, runWith, frameWith, Scanned, whole, stopped, onward, scan, scanned}
-use Rattle.line.specs.Read.{identifierIn, fieldIn, withIdentifier, decoded, readAnswer, lineNumbers}
+use Rattle.line.specs.Read.{identifierIn, fieldIn, withIdentifier, decoded, readAnswer, answerOf}
 use Rattle.line.specs.declared.Line.{Line}
 use Rattle.line.specs.declared.Line.the-variants.{Frame, Refused}
 use Rattle.line.proofs.Verdicts.{taken-dlc}
@@ -39,9 +39,6 @@ few-most : (frame : List ℕ) → Few frame → length frame ≤ 108
 unfolding crcStart
 few-most frame (inl h) = omega arith
 few-most frame (inr h) = omega (arith, h .0, h .1)
-
-one-more : (frame : List ℕ) (bit : ℕ) → length (frame ++ (bit ∷ [])) ≡ length frame + 1
-one-more frame bit = length-append frame (bit ∷ [])
 
 few-next : (frame : List ℕ) (bit : ℕ) → Few frame → Next frame bit → Few (frame ++ (bit ∷ []))
 unfolding crcStart complete
@@ -142,11 +139,9 @@ place-few line room refusal e = go (scanned line) refl e
         stop-few nothingSent [] 0 line refusal (inl (lit< tt)) start (d ∙ ap stopped same)
     go (whole frame) d q = field-few (identifierIn frame) (decodeAnswer (fieldIn frame) room) refusal (decode-small (fieldIn frame) room) q
 
-pub read-small : (line : List ℕ) (room : ℕ) → Below 2048 (lineNumbers (readAnswer line room))
+pub read-small : (line : List ℕ) (room : ℕ) → Below 217 (answerNumbers (answerOf (readAnswer line room)))
 read-small line room = go (readAnswer line room) refl
   where
-    go : (l : Line) → readAnswer line room ≡ l → Below 2048 (lineNumbers l)
-    go (Frame identifier n) e =
-        let coded = accepted-is-coded line room identifier n e in
-        (lit< tt, (omega (arith, coded .known), (omega (arith, coded .short), tt)))
+    go : (l : Line) → readAnswer line room ≡ l → Below 217 (answerNumbers (answerOf l))
+    go (Frame identifier n) e = (lit< tt, (omega (arith, accepted-is-coded line room identifier n e .short), tt))
     go (Refused refusal) e = (omega (arith, number-in-table refusal .1), (omega (arith, place-few line room refusal e), tt))

@@ -1,4 +1,4 @@
--- What each call answers can be packed: its numbers have 16 bits. Assumes nothing.
+-- What each call answers can be packed: refusal's number, and length or place, have 16 bits. Assumes nothing.
 --     encode-fits, decode-fits, length-fits, make-fits, bounds-fit, read-fits
 use mathlib.Core.Path.{_≡_, sym, subst}
 use mathlib.Core.List.{List}
@@ -14,7 +14,7 @@ use Rattle.field.proofs.Small.{encode-small, decode-small}
 use Rattle.frame.specs.Answers.{makeAnswer, lengthAnswer, boundsAnswer, boundsNumbers}
 use Rattle.frame.specs.declared.Bounds.{Bounds}
 use Rattle.frame.proofs.Small.{length-small, make-small, bounds-small}
-use Rattle.line.specs.Read.{readAnswer, lineNumbers}
+use Rattle.line.specs.Read.{readAnswer, answerOf}
 use Rattle.line.specs.declared.Line.{Line}
 use Rattle.line.proofs.Small.{read-small}
 
@@ -37,5 +37,5 @@ module _ (identifier : ℕ) (payload : List ℕ) (bytes : Below 256 payload) whe
 pub bounds-fit : (identifier size : ℕ) (b : Bounds) → b ≡ boundsAnswer identifier size → Below (2 ^ 16) (boundsNumbers b)
 bounds-fit identifier size b = fits boundsNumbers 117 b (boundsAnswer identifier size) (omega arith) (bounds-small identifier size)
 
-pub read-fits : (line : List ℕ) (room : ℕ) (l : Line) → l ≡ readAnswer line room → Below (2 ^ 16) (lineNumbers l)
-read-fits line room l = fits lineNumbers 2048 l (readAnswer line room) (omega arith) (read-small line room)
+pub read-fits : (line : List ℕ) (room : ℕ) (l : Line) → l ≡ readAnswer line room → Below (2 ^ 16) (answerNumbers (answerOf l))
+read-fits line room l = fits (λ (x : Line). answerNumbers (answerOf x)) 217 l (readAnswer line room) (omega arith) (read-small line room)

@@ -16,7 +16,7 @@ use Rattle.refusals.proofs.Table.{refusal-only, number-some}
 use Rattle.frame.specs.Answers.{boundsNumbers}
 use Rattle.frame.specs.declared.Bounds.{Bounds}
 use Rattle.frame.specs.declared.Bounds.the-variants as bounds
-use Rattle.line.specs.Read.{lineNumbers}
+use Rattle.line.specs.Read.{answerOf}
 use Rattle.line.specs.declared.Line.{Line}
 use Rattle.line.specs.declared.Line.the-variants as line
 use Rattle.prushgoli.specs.Packing.{pack, packedRefusal, packedAnswer, packedBounds, packedLine}
@@ -35,7 +35,7 @@ module _ (low refusal high : ℕ) (l : low < 2 ^ 16) where
     unfolding pack
     high-back = omega arith
 
-pub pack-only : (l r h l′ r′ h′ : ℕ) → l < 2 ^ 16 → r < 2 ^ 16 → l′ < 2 ^ 16 → r′ < 2 ^ 16 → pack l r h ≡ pack l′ r′ h′
+pack-only : (l r h l′ r′ h′ : ℕ) → l < 2 ^ 16 → r < 2 ^ 16 → l′ < 2 ^ 16 → r′ < 2 ^ 16 → pack l r h ≡ pack l′ r′ h′
     → (l ≡ l′) × (r ≡ r′) × (h ≡ h′)
 pack-only l r h l′ r′ h′ a b a′ b′ e = (
   sym (low-back l r h a) ∙ ap (λ (n : ℕ). n % 2 ^ 16) e ∙ low-back l′ r′ h′ a′,
@@ -71,13 +71,13 @@ bounds-pack (bounds.Between l m) (bounds.Refused r) s t e = refused-or-not l m r
 bounds-pack (bounds.Refused r) (bounds.Between j k) s t e = refused-or-not j k r (t .1 .0) s (sym e)
 bounds-pack (bounds.Refused r) (bounds.Refused q) s t e = ap bounds.Refused (refused-only r q s t e)
 
-pub line-packs : (a b : Line) → Below (2 ^ 16) (lineNumbers a) → Below (2 ^ 16) (lineNumbers b)
+pub line-packs : (a b : Line) → Below (2 ^ 16) (answerNumbers (answerOf a)) → Below (2 ^ 16) (answerNumbers (answerOf b))
     → packedLine a ≡ packedLine b → a ≡ b
 line-packs (line.Frame i m) (line.Frame j n) s t e =
-    let same = pack-only m 0 i n 0 j (s .1 .1 .0) (lit< tt) (t .1 .1 .0) (lit< tt) e in
+    let same = pack-only m 0 i n 0 j (s .1 .0) (lit< tt) (t .1 .0) (lit< tt) e in
     ap₂ line.Frame (same .2) (same .0)
-line-packs (line.Frame i m) (line.Refused r) s t e = refused-or-not m i r (s .1 .1 .0) t e
-line-packs (line.Refused r) (line.Frame j n) s t e = refused-or-not n j r (t .1 .1 .0) s (sym e)
+line-packs (line.Frame i m) (line.Refused r) s t e = refused-or-not m i r (s .1 .0) t e
+line-packs (line.Refused r) (line.Frame j n) s t e = refused-or-not n j r (t .1 .0) s (sym e)
 line-packs (line.Refused r) (line.Refused q) s t e = ap line.Refused (refused-only r q s t e)
 
 pub same-packed : {A : Type 0} (number : A → ℕ) (memory : A → List ℕ) (a b : A) (r : ℕ) (left : List ℕ) → a ≡ b

@@ -4,7 +4,7 @@ ghost use Prim.Native.Nat.{_<_, _^_};
 ghost use Rattle.bits.specs.Below.{Below};
 ghost use Rattle.refusals.specs.Table.{placeOf, answerNumbers};
 ghost use Rattle.frame.specs.Answers.{boundsNumbers};
-ghost use Rattle.line.specs.Read.{lineNumbers};
+ghost use Rattle.line.specs.Read.{answerOf};
 ghost use Rattle.prushgoli.specs.Packing.{pack, packedRefusal, packedAnswer, packedBounds, packedLine};
 use frame::Bounds;
 use line::Line;
@@ -32,7 +32,7 @@ pub(crate) fn bounds(bounds: Bounds) -> u64
 }
 
 pub(crate) fn line(line: Line) -> u64
-    requires { ⌜ Below (2 ^ 16) (lineNumbers line) ⌝ }
+    requires { ⌜ Below (2 ^ 16) (answerNumbers (answerOf line)) ⌝ }
     ensures { λ r. ⌜ r ≡ packedLine line ⌝ }
 {
     match line {

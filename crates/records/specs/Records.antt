@@ -21,10 +21,14 @@ kindOf byte =
     (cond (leb 0x20 byte && leb byte 0x29) (kind.Field (byte - 0x20))
     kind.Unknown)
 
--- a record, of which this many bytes are left for the body; 14 at its kind byte where the body is cut, or the kind unknown
+-- a record whose body has this many bytes, where so many are left; 14 at its kind byte where the body is cut
+abbrev pub wholeOr14 : Record → ℕ → ℕ → ℕ → Record
+wholeOr14 found body left offset = cond (ltb left body) (Refused (refusal.Record offset)) found
+
+-- and where the kind is unknown
 abbrev pub recordOf : Kind → ℕ → ℕ → Record
-recordOf (kind.Payload body) left offset = cond (ltb left body) (Refused (refusal.Record offset)) (Payload body)
-recordOf (kind.Field body) left offset = cond (ltb left body) (Refused (refusal.Record offset)) (Field body)
+recordOf (kind.Payload body) left offset = wholeOr14 (Payload body) body left offset
+recordOf (kind.Field body) left offset = wholeOr14 (Field body) body left offset
 recordOf kind.Unknown left offset = Refused (refusal.Record offset)
 
 unfoldable pub recordAt : List ℕ → ℕ → Record

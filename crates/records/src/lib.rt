@@ -1,7 +1,7 @@
 // The records of a trace: one byte of kind, then a body whose length the kind fixes.
 ghost use mathlib.Core.Path.{_≡_};
 ghost use Prim.Native.Nat.{min};
-ghost use Rattle.records.specs.Records.{mostBytes, recordAt};
+ghost use Rattle.records.specs.Records.{mostBytes, wholeOr14, recordAt};
 
 mod kinds;
 
@@ -27,20 +27,20 @@ pub fn record_at(trace: &[u8], offset: usize) -> Record
     }
     let left = end - offset - 1;
     match kinds::of(trace[offset]) {
-        Kind::Payload(body) => {
-            if left < body {
-                return Record::Refused(Refusal::Record(offset));
-            }
-            Record::Payload(body)
-        }
-        Kind::Field(body) => {
-            if left < body {
-                return Record::Refused(Refusal::Record(offset));
-            }
-            Record::Field(body)
-        }
+        Kind::Payload(body) => whole(Record::Payload(body), body, left, offset),
+        Kind::Field(body) => whole(Record::Field(body), body, left, offset),
         Kind::Unknown => Record::Refused(Refusal::Record(offset)),
     }
+}
+
+// The record, if the body has not more bytes than are left.
+fn whole(found: Record, body: usize, left: usize, offset: usize) -> Record
+    ensures { λ r. ⌜ r ≡ wholeOr14 found body left offset ⌝ }
+{
+    if left < body {
+        return Record::Refused(Refusal::Record(offset));
+    }
+    found
 }
 
 // How many bytes of a trace of this length count.

@@ -1,7 +1,7 @@
 -- Numbers in decimal. Assumes nothing.
 --     decimal-short    one digit, for a number below 10
 --     decimal-long     else the digits of the tenth part, and one more
---     decimal-most, spaced-most, two-most    never more than 20, and a space
+--     decimal-most, spaced-most    never more than 20, and a space
 use mathlib.Core.Path.{_≡_, refl, sym, ap, _∙_}
 use mathlib.Core.Bool.{Bool, true, false, cond}
 use mathlib.Core.List.{List, [], _∷_, _++_}

@@ -1,5 +1,7 @@
 -- Reports worked by hand, of the definitions. Assumes nothing.
 --     example-right    document 01's example: five lines, the last with refusal 14
+--     long-right       a payload of seven bytes and its field; a data field that is cut
+--     last-right       a body that ends with the trace is whole
 --     odd-right        a payload of eight bytes, fields of one and of nine; neither stops the report; a body that is cut does
 use mathlib.Core.Path.{_≡_, refl}
 use mathlib.Core.List.{[], _∷_}
@@ -33,3 +35,14 @@ pub odd-right : report (0x18 ∷ 0x00 ∷ 0x00 ∷ 0x00 ∷ 0x00 ∷ 0x00 ∷ 0x
     ∷ 0x34 ∷ 0x20 ∷ 0x2D ∷ 0x20 ∷ 0x31 ∷ 0x34 ∷ 0x20 ∷ 0x32 ∷ 0x31 ∷ 0x20 ∷ 0x2D ∷ 0x0A ∷ []
 unfolding bits number unpacked packed equalNeighbours words wordOf placeIn symbolOf padding fieldBits fieldOf breakPart wordsPart paddingPart encodeAnswer decodeAnswer payloadOf kindOf recordAt bodyAt decimalIn decimal hexDigit hex bytesText lineText outcomeText encodedText decodedText lineAt reportedAt linesFrom report
 odd-right = refl
+
+pub long-right : report (0x17 ∷ 0x00 ∷ 0x00 ∷ 0x00 ∷ 0x00 ∷ 0x00 ∷ 0x00 ∷ 0x00 ∷ 0x28 ∷ 0x90 ∷ 0xC8 ∷ 0x64 ∷ 0x32 ∷ 0x19 ∷ 0x0C ∷ 0x86 ∷ 0x43 ∷ 0x22 ∷ 0xEA ∷ []) ≡
+    0x31 ∷ 0x20 ∷ 0x45 ∷ 0x20 ∷ 0x30 ∷ 0x20 ∷ 0x30 ∷ 0x20 ∷ 0x39 ∷ 0x30 ∷ 0x43 ∷ 0x38 ∷ 0x36 ∷ 0x34 ∷ 0x33 ∷ 0x32 ∷ 0x31 ∷ 0x39 ∷ 0x30 ∷ 0x43 ∷ 0x38 ∷ 0x36 ∷ 0x34 ∷ 0x33 ∷ 0x0A
+    ∷ 0x32 ∷ 0x20 ∷ 0x44 ∷ 0x20 ∷ 0x30 ∷ 0x20 ∷ 0x30 ∷ 0x20 ∷ 0x30 ∷ 0x30 ∷ 0x30 ∷ 0x30 ∷ 0x30 ∷ 0x30 ∷ 0x30 ∷ 0x30 ∷ 0x30 ∷ 0x30 ∷ 0x30 ∷ 0x30 ∷ 0x30 ∷ 0x30 ∷ 0x0A
+    ∷ 0x33 ∷ 0x20 ∷ 0x2D ∷ 0x20 ∷ 0x31 ∷ 0x34 ∷ 0x20 ∷ 0x31 ∷ 0x37 ∷ 0x20 ∷ 0x2D ∷ 0x0A ∷ []
+unfolding bits number unpacked packed equalNeighbours words wordOf placeIn symbolOf padding fieldBits fieldOf breakPart wordsPart paddingPart encodeAnswer decodeAnswer payloadOf kindOf recordAt bodyAt decimalIn decimal hexDigit hex bytesText lineText outcomeText encodedText decodedText lineAt reportedAt linesFrom report
+long-right = refl
+
+pub last-right : report (0x11 ∷ 0xF0 ∷ []) ≡ 0x31 ∷ 0x20 ∷ 0x45 ∷ 0x20 ∷ 0x30 ∷ 0x20 ∷ 0x30 ∷ 0x20 ∷ 0x45 ∷ 0x41 ∷ 0x35 ∷ 0x35 ∷ 0x0A ∷ []
+unfolding bits number unpacked packed equalNeighbours words wordOf placeIn symbolOf padding fieldBits fieldOf breakPart wordsPart paddingPart encodeAnswer decodeAnswer payloadOf kindOf recordAt bodyAt decimalIn decimal hexDigit hex bytesText lineText outcomeText encodedText decodedText lineAt reportedAt linesFrom report
+last-right = refl

@@ -1,6 +1,5 @@
 -- Bytes in hexadecimal. Assumes nothing.
---     hex-next       what is left of the bytes starts with the next of them
---     hex-written    once that is written, what is left leads where it led
+--     hex-written    once the next byte is written, what is left leads where it led
 --     hex-length     two digits for each
 --     bytes-none, bytes-some    a dash for none
 --     wrote-none, wrote-some    what is written then
@@ -17,7 +16,8 @@ use Rattle.report.specs.Text.{dash, hexByte, hex, bytesText}
 use Rattle.report.specs.Writing.{Wrote}
 use Rattle.report.proofs.Wrote.{wrote-one}
 
-pub hex-next : (l : List ℕ) (i : ℕ) → i < length l → hex (drop i l) ≡ hexByte (getD l i 0) ++ hex (drop (i + 1) l)
+-- what is left of the bytes starts with the next of them
+hex-next : (l : List ℕ) (i : ℕ) → i < length l → hex (drop i l) ≡ hexByte (getD l i 0) ++ hex (drop (i + 1) l)
 unfolding hex
 hex-next l i h = ap hex (drop-cons l i 0 h) ∙ rw (add-one i)
 

@@ -9,7 +9,7 @@
 use mathlib.Core.Path.{_≡_, sym, ap, _∙_}
 use mathlib.Core.Bool.{Bool, true, false, cond}
 use mathlib.Core.List.{List, [], _∷_, _++_}
-use Prim.Native.Nat.{ℕ, _+_, _≤_, _<_}
+use Prim.Native.Nat.{ℕ, _+_, _≤_, _<_, min}
 use native.Mathlib.Nat.{zero-add}
 use native.Mathlib.Omega.{arith}
 use lib.Dec.{ltb}
@@ -114,20 +114,21 @@ text-most (found.Field body) trace offset number = decoded-most number (bodyAt t
 text-most (found.Refused refusal) trace offset number = outcome-most number dash (answer.Refused refusal) [] tt
 text-most found.End trace offset number = omega arith
 
+body-goes : (trace : List ℕ) (offset body k n next : ℕ) → offset + 1 + body ≤ min (length trace) 65536 → k ≤ 82
+    → Line k (offset + 1 + body) ≡ Line n next → Goes trace offset n next
+body-goes trace offset body k n next inside few e =
+    let long : k ≡ n = cc in
+    let behind : offset + 1 + body ≡ next = cc in
+    record { short = omega (arith, long, few); later = omega (arith, behind); inside = omega (arith, behind, inside) }
+
 found-goes : (r : Record) (trace : List ℕ) (offset k n next : ℕ) → Inside r trace offset → k ≤ 82
     → recordReported r trace offset k ≡ Line n next → Goes trace offset n next
-found-goes (found.Payload body) trace offset k n next inside few e =
-    let long : k ≡ n = cc in
-    let behind : offset + 1 + body ≡ next = cc in
-    record { short = omega (arith, long, few); later = omega (arith, behind); inside = omega (arith, behind, inside) }
-found-goes (found.Field body) trace offset k n next inside few e =
-    let long : k ≡ n = cc in
-    let behind : offset + 1 + body ≡ next = cc in
-    record { short = omega (arith, long, few); later = omega (arith, behind); inside = omega (arith, behind, inside) }
+found-goes (found.Payload body) trace offset k n next inside few e = body-goes trace offset body k n next inside few e
+found-goes (found.Field body) trace offset k n next inside few e = body-goes trace offset body k n next inside few e
 found-goes (found.Refused refusal) trace offset k n next inside few e =
     let long : k ≡ n = cc in
     let behind : length trace ≡ next = cc in
-    record { short = omega (arith, long, few); later = omega (arith, behind, inside); inside = omega (arith, behind) }
+    record { short = omega (arith, long, few); later = omega (arith, behind, inside .0); inside = omega (arith, behind) }
 found-goes found.End trace offset k n next inside few e = let z : _≡_ {A = ℕ} 0 1 = cc in absurd (omega arith)
 
 pub reported-goes : (trace : List ℕ) (offset number room n next : ℕ) → reportedAt trace offset number room ≡ Line n next → Goes trace offset n next

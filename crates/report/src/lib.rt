@@ -11,6 +11,9 @@ use records::Record;
 use refusals::Answer;
 use refusals::Refusal;
 
+// The room that every line is lent: more than any takes.
+pub const LINE_ROOM: usize = 96;
+
 // What the report says at an offset: a line of this length, and where the next record stands, which behind refusal 14 is the trace's
 // end; nothing, where the trace ends; or a refusal.
 pub enum Reported {
@@ -20,12 +23,12 @@ pub enum Reported {
 }
 
 // Writes the line of the record at an offset, with the number that the record is to have, to the start of `text`. Refused with 2: room
-// for 96 bytes is asked for whatever the line.
+// for LINE_ROOM bytes is asked for whatever the line.
 pub fn line_at(trace: &[u8], offset: usize, number: usize, text: &mut [u8]) -> Reported
     ensures answer { λ r. ⌜ r ≡ reportedAt (now (trace .entry)) offset number (length (now (text .entry))) ⌝ }
     ensures memory { λ r. ⌜ now (text .exit) ≡ after (answerOf r) (lineAt (now (trace .entry)) offset number) (now (text .entry)) ⌝ }
 {
-    if text.len() < 96 {
+    if text.len() < LINE_ROOM {
         return Reported::Refused(Refusal::RoomShort);
     }
     match records::record_at(trace, offset) {
@@ -45,6 +48,7 @@ pub fn line_at(trace: &[u8], offset: usize, number: usize, text: &mut [u8]) -> R
                 next,
             }
         }
+        // A refusal has no result, so that it is of no matter which bytes are lent for one.
         Record::Refused(refusal) => Reported::Line {
             length: writing::outcome(number, b'-', Answer::Refused(refusal), trace, text),
             next: trace.len(),

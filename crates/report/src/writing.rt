@@ -66,13 +66,13 @@ fn whole(
     requires { ⌜ (count ≤ 8) × (count ≤ length (now bytes)) × (96 ≤ length (now line)) ⌝ }
     ensures { λ r. ⌜ Wrote (lineText number letter refusal place (take count (now (bytes .entry)))) 0 (now (line .entry)) (now (line .exit)) r ⌝ }
 {
-    let reason_at = first(number, letter, line);
-    let result_at = reason(refusal, place, reason_at, line);
-    last(&bytes[..count], result_at, line)
+    let refusal_at = number_and_letter(number, letter, line);
+    let result_at = refusal_and_place(refusal, place, refusal_at, line);
+    result_and_end(&bytes[..count], result_at, line)
 }
 
 // The record number and the letter.
-fn first(number: usize, letter: u8, line: &mut [u8]) -> usize
+fn number_and_letter(number: usize, letter: u8, line: &mut [u8]) -> usize
     requires { ⌜ 23 ≤ length (now line) ⌝ }
     ensures { λ r. ⌜ Wrote (spaced number ++ (letter ∷ space ∷ [])) 0 (now (line .entry)) (now (line .exit)) r ⌝ }
 {
@@ -83,7 +83,7 @@ fn first(number: usize, letter: u8, line: &mut [u8]) -> usize
 }
 
 // The refusal number and the place.
-fn reason(refusal: u8, place: usize, at: usize, line: &mut [u8]) -> usize
+fn refusal_and_place(refusal: u8, place: usize, at: usize, line: &mut [u8]) -> usize
     requires { ⌜ at + 42 ≤ length (now line) ⌝ }
     ensures { λ r. ⌜ Wrote (spaced refusal ++ spaced place) at (now (line .entry)) (now (line .exit)) r ⌝ }
 {
@@ -92,7 +92,7 @@ fn reason(refusal: u8, place: usize, at: usize, line: &mut [u8]) -> usize
 }
 
 // The resulting bytes, and the end of the line.
-fn last(result: &[u8], at: usize, line: &mut [u8]) -> usize
+fn result_and_end(result: &[u8], at: usize, line: &mut [u8]) -> usize
     requires { ⌜ (length (now result) ≤ 8) × (at + 17 ≤ length (now line)) ⌝ }
     ensures { λ r. ⌜ Wrote (bytesText (now (result .entry)) ++ (newline ∷ [])) at (now (line .entry)) (now (line .exit)) r ⌝ }
 {

@@ -3,7 +3,6 @@ use mathlib.Core.Path.{_≡_, sym, ap₂, _∙_}
 use Prim.Native.Nat.{ℕ, _-_}
 use native.Mathlib.Omega.{arith}
 use borrow.Author.Needs.{needs}
-use borrow.Author.Tests.{lt-ltb, le-ltb}
 use Rattle.records.specs.Records.{recordOf, recordAt}
 use Rattle.records.specs.declared.kinds.Kind.{Kind}
 use Rattle.records.proofs.Records.{record-end, record-begun}
@@ -31,40 +30,36 @@ of-requires c κs = search needs
 -- what stands at the offset, by the kind
 begun : (c : tie.After-of) (k : Kind) → c .of .result ≡ k →
     let args = c .before .before .before .before .before .args in
-    let trace = args .trace .now in
-    let offset = args .offset in
-    recordAt trace offset ≡ recordOf k (c .before .before .before .covered .result - offset - 1) offset
+    recordAt (args .trace .now) (args .offset) ≡ recordOf k (c .before .before .before .covered .result - args .offset - 1) (args .offset)
 begun c k e =
     let args = c .before .before .before .before .before .args in
-    let trace = args .trace .now in
     let offset = args .offset in
-    let end = c .before .before .before .covered in
-    record-begun trace offset (omega arith)
-    ∙ ap₂ (λ (x : Kind) (n : ℕ). recordOf x (n - offset - 1) offset) (sym (c .of .ensures) ∙ e) (sym (end .ensures))
+    record-begun (args .trace .now) offset (omega arith)
+    ∙ ap₂ (λ (x : Kind) (n : ℕ). recordOf x (n - offset - 1) offset) (sym (c .of .ensures) ∙ e) (sym (c .before .before .before .covered .ensures))
 
 enum-known-body : tie.Need-enum-known-body
 enum-known-body c = search needs
 
-returns-2 : tie.Need-returns-2
-returns-2 c = sym (begun (c .before .before .before .before) _ (c .before .before .body .given .1) ∙ simp (lt-ltb _ _ (c .if2 .taken)))
+whole-requires : tie.Need-whole-requires
+whole-requires c κs = search needs
 
 enum-known-body-2 : tie.Need-enum-known-body-2
 enum-known-body-2 c = search needs
 
-returns-3 : tie.Need-returns-3
-returns-3 c = sym (begun (c .before .before .before .before) _ (c .before .before .body2 .given .1) ∙ simp (lt-ltb _ _ (c .if3 .taken)))
+whole-requires-2 : tie.Need-whole-requires-2
+whole-requires-2 c κs = search needs
 
 enum-told : tie.Need-enum-told
 enum-told c = search needs
 
+returns-2 : tie.Need-returns-2
+returns-2 c = c .whole .ensures ∙ sym (begun (c .before .before .before .before) _ (c .before .before .body .given .1))
+
+returns-3 : tie.Need-returns-3
+returns-3 c = c .whole2 .ensures ∙ sym (begun (c .before .before .before .before) _ (c .before .before .body2 .given .1))
+
 returns-4 : tie.Need-returns-4
-returns-4 c = sym (begun (c .before .before .before .before) _ (c .before .before .body .given .1) ∙ simp (le-ltb _ _ (c .if2 .left)))
-
-returns-5 : tie.Need-returns-5
-returns-5 c = sym (begun (c .before .before .before .before) _ (c .before .before .body2 .given .1) ∙ simp (le-ltb _ _ (c .if3 .left)))
-
-returns-6 : tie.Need-returns-6
-returns-6 c = sym (begun (c .before .before) _ (c .enum-told .given .1))
+returns-4 c = sym (begun (c .before .before) _ (c .enum-told .given .1))
 
 pub record-at-spec : {M : Type 1} → statement M
 record-at-spec =
@@ -77,10 +72,10 @@ record-at-spec =
     shared-slice-read-of
     of-requires
     enum-known-body
-    returns-2
+    whole-requires
     enum-known-body-2
-    returns-3
+    whole-requires-2
     enum-told
-    returns-4
-    returns-5
-    returns-6)
+    returns-2
+    returns-3
+    returns-4)

@@ -39,7 +39,7 @@ part-encoded-start : tie.Need-part-encoded-start
 part-encoded-start c = search needs
 
 part-encoded-end : tie.Need-part-encoded-end
-part-encoded-end c = inside (c .before .before .before) _ (c .before .body .given .1)
+part-encoded-end c = omega (arith, inside (c .before .before .before) _ (c .before .body .given .1))
 
 encoded-requires : tie.Need-encoded-requires
 encoded-requires c κs = search needs
@@ -60,7 +60,7 @@ part-decoded-start : tie.Need-part-decoded-start
 part-decoded-start c = search needs
 
 part-decoded-end : tie.Need-part-decoded-end
-part-decoded-end c = inside (c .before .before .before) _ (c .before .body2 .given .1)
+part-decoded-end c = omega (arith, inside (c .before .before .before) _ (c .before .body2 .given .1))
 
 decoded-requires : tie.Need-decoded-requires
 decoded-requires c κs = search needs

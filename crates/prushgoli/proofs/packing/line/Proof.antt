@@ -3,21 +3,22 @@ use mathlib.Core.Path.{_≡_, sym, ap, _∙_, subst}
 use Prim.Native.Nat.{_^_}
 use borrow.Author.Needs.{needs}
 use Rattle.bits.specs.Below.{Below}
-use Rattle.line.specs.Read.{lineNumbers}
+use Rattle.refusals.specs.Table.{answerNumbers}
+use Rattle.line.specs.Read.{answerOf}
 use Rattle.line.specs.declared.Line.{Line}
 use Rattle.prushgoli.specs.Packing.{packedLine}
 use Rattle.prushgoli.proofs.packing.line.Statement.{statement}
 use Rattle.prushgoli.proofs.packing.line.Tie as tie
 
 -- in its case
-small : (c : tie.Start) (a : Line) → c .args .line ≡ a → Below (2 ^ 16) (lineNumbers a)
-small c a e = subst (λ (x : Line). Below (2 ^ 16) (lineNumbers x)) e (c .pre)
+small : (c : tie.Start) (a : Line) → c .args .line ≡ a → Below (2 ^ 16) (answerNumbers (answerOf a))
+small c a e = subst (λ (x : Line). Below (2 ^ 16) (answerNumbers (answerOf x))) e (c .pre)
 
 enum-known-line : tie.Need-enum-known-line
 enum-known-line c = search needs
 
 pack-requires : tie.Need-pack-requires
-pack-requires c κs = small (c .before .before .before) _ (c .before .line .given .1) .1 .1 .0
+pack-requires c κs = small (c .before .before .before) _ (c .before .line .given .1) .1 .0
 
 enum-known-line-2 : tie.Need-enum-known-line-2
 enum-known-line-2 c = search needs

@@ -18,7 +18,6 @@ slice-write-text c =
 add-result : tie.Need-add-result
 add-result c =
     let digits = c .before .before .decimal .ensures in
-    let args = c .before .before .before .before .before .args in
     omega (arith, slice-write-text c, wrote-length digits)
 
 same-length : tie.Need-same-length

@@ -12,33 +12,33 @@ use Rattle.report.proofs.Decimal.{spaced-most}
 use Rattle.report.proofs.writing.whole.Statement.{statement}
 use Rattle.report.proofs.writing.whole.Tie as tie
 
-first-requires : tie.Need-first-requires
-first-requires c κs = search needs
+number-and-letter-requires : tie.Need-number-and-letter-requires
+number-and-letter-requires c κs = search needs
 
 -- the line is as long as it was, and this much of it is written
-first-room : (c : tie.After-first) →
+first-part-room : (c : tie.After-number-and-letter) →
     let line = c .before .before .before .before .args .line .now in
-    (c .first .result ≤ 23) × (length (c .first .last .1 .1 .0) ≡ length line)
-first-room c =
+    (c .number-and-letter .result ≤ 23) × (length (c .number-and-letter .last .1 .1 .0) ≡ length line)
+first-part-room c =
     let args = c .before .before .before .before .args in
-    let first = c .first .ensures in (
+    let first = c .number-and-letter .ensures in (
       omega (arith, first .behind-is, length-append (spaced (args .number)) (args .letter ∷ space ∷ []), spaced-most (args .number)),
       wrote-length first,
     )
 
-reason-requires : tie.Need-reason-requires
-reason-requires c κs = omega (arith, c .before .before .before .before .before .before .before .pre .2, first-room (c .before .before .before))
+refusal-and-place-requires : tie.Need-refusal-and-place-requires
+refusal-and-place-requires c κs = omega (arith, c .before .before .before .before .before .before .before .pre .2, first-part-room (c .before .before .before))
 
-slice-aggregate-last : tie.Need-slice-aggregate-last
-slice-aggregate-last c =
+slice-aggregate-result-and-end : tie.Need-slice-aggregate-result-and-end
+slice-aggregate-result-and-end c =
     let start = c .before .before .before .before .before .before .before .before .before .before .before in
     omega (arith, length-take (start .args .count) (start .args .bytes .now), start .pre .1)
 
-last-requires : tie.Need-last-requires
-last-requires c κs =
+result-and-end-requires : tie.Need-result-and-end-requires
+result-and-end-requires c κs =
     let start = c .before .before .before .before .before .before .before .before .before .before .before .before in
-    let first = first-room (c .before .before .before .before .before .before .before .before) in
-    let reason = c .before .before .before .before .reason .ensures in (
+    let first = first-part-room (c .before .before .before .before .before .before .before .before) in
+    let reason = c .before .before .before .before .refusal-and-place .ensures in (
       omega (arith, length-take (start .args .count) (start .args .bytes .now), start .pre .0),
       omega (
         arith,
@@ -59,17 +59,17 @@ same-length c = search needs
 returns : tie.Need-returns
 unfolding lineText
 returns c =
-    let first = c .before .before .before .before .before .before .before .before .before .before .before .first .ensures in
-    let reason = c .before .before .before .before .before .before .before .reason .ensures in
-    wrote-behind first (wrote-behind reason (c .before .before .last .ensures))
+    let first = c .before .before .before .before .before .before .before .before .before .before .before .number-and-letter .ensures in
+    let reason = c .before .before .before .before .before .before .before .refusal-and-place .ensures in
+    wrote-behind first (wrote-behind reason (c .before .before .result-and-end .ensures))
 
 pub whole-spec : {M : Type 1} → statement M
 whole-spec =
     tie.close
     (tie.spec
-    first-requires
-    reason-requires
-    slice-aggregate-last
-    last-requires
+    number-and-letter-requires
+    refusal-and-place-requires
+    slice-aggregate-result-and-end
+    result-and-end-requires
     same-length
     returns)

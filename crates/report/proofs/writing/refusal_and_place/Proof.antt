@@ -1,10 +1,10 @@
--- `report::writing::reason` meets its contract. Assumes nothing.
+-- `report::writing::refusal_and_place` meets its contract. Assumes nothing.
 use native.Mathlib.Omega.{arith}
 use borrow.Author.Needs.{needs}
 use Rattle.report.proofs.Wrote.{wrote-length, wrote-behind}
 use Rattle.report.proofs.Decimal.{spaced-most}
-use Rattle.report.proofs.writing.reason.Statement.{statement}
-use Rattle.report.proofs.writing.reason.Tie as tie
+use Rattle.report.proofs.writing.refusal_and_place.Statement.{statement}
+use Rattle.report.proofs.writing.refusal_and_place.Tie as tie
 
 spaced-requires : tie.Need-spaced-requires
 spaced-requires c κs = search needs
@@ -21,5 +21,5 @@ same-length c = search needs
 returns : tie.Need-returns
 returns c = wrote-behind (c .before .before .before .before .before .before .spaced .ensures) (c .before .before .spaced2 .ensures)
 
-pub reason-spec : {M : Type 1} → statement M
-reason-spec = tie.close (tie.spec spaced-requires spaced-requires-2 same-length returns)
+pub refusal-and-place-spec : {M : Type 1} → statement M
+refusal-and-place-spec = tie.close (tie.spec spaced-requires spaced-requires-2 same-length returns)

@@ -1,10 +1,10 @@
--- `report::writing::last` meets its contract. Assumes nothing.
+-- `report::writing::result_and_end` meets its contract. Assumes nothing.
 use native.Mathlib.Omega.{arith}
 use borrow.Author.Needs.{needs}
 use Rattle.report.proofs.Wrote.{wrote-length, wrote-behind, wrote-one}
 use Rattle.report.proofs.HexBytes.{bytes-most}
-use Rattle.report.proofs.writing.last.Statement.{statement}
-use Rattle.report.proofs.writing.last.Tie as tie
+use Rattle.report.proofs.writing.result_and_end.Statement.{statement}
+use Rattle.report.proofs.writing.result_and_end.Tie as tie
 
 bytes-requires : tie.Need-bytes-requires
 bytes-requires c κs =
@@ -26,5 +26,5 @@ same-length c = search needs
 returns : tie.Need-returns
 returns c = wrote-behind (c .before .before .bytes .ensures) (wrote-one _ _ _)
 
-pub last-spec : {M : Type 1} → statement M
-last-spec = tie.close (tie.spec bytes-requires slice-write-line add-result same-length returns)
+pub result-and-end-spec : {M : Type 1} → statement M
+result-and-end-spec = tie.close (tie.spec bytes-requires slice-write-line add-result same-length returns)

@@ -1,12 +1,12 @@
--- `report::writing::first` meets its contract. Assumes nothing.
+-- `report::writing::number_and_letter` meets its contract. Assumes nothing.
 use Prim.Native.Nat.{_+_, _≤_}
 use native.Mathlib.Omega.{arith}
 use lib.ListN.{length, length-set}
 use borrow.Author.Needs.{needs}
 use Rattle.report.proofs.Wrote.{wrote-length, wrote-behind, wrote-two}
 use Rattle.report.proofs.Decimal.{spaced-most}
-use Rattle.report.proofs.writing.first.Statement.{statement}
-use Rattle.report.proofs.writing.first.Tie as tie
+use Rattle.report.proofs.writing.number_and_letter.Statement.{statement}
+use Rattle.report.proofs.writing.number_and_letter.Tie as tie
 
 spaced-requires : tie.Need-spaced-requires
 spaced-requires c κs = search needs
@@ -36,8 +36,8 @@ same-length c = search needs
 returns : tie.Need-returns
 returns c = wrote-behind (c .before .before .spaced .ensures) (wrote-two _ _ _ _)
 
-pub first-spec : {M : Type 1} → statement M
-first-spec =
+pub number-and-letter-spec : {M : Type 1} → statement M
+number-and-letter-spec =
     tie.close
     (tie.spec
     spaced-requires
