@@ -1,5 +1,5 @@
 # Prushgoli. `make test` is the whole gate, `make run` the program trace on an example, `make lib` the library for C.
-.PHONY: help test can-fail run lib install clean
+.PHONY: help test can-fail run readable lib install clean
 .DELETE_ON_ERROR:
 # Two runs of rt would share target/.
 .NOTPARALLEL:
@@ -37,52 +37,62 @@ can-fail: lib target/bin/trace
 	tests/trace/can-fail
 
 # On a machine that is not x86-64 the program runs under qemu, which tests/x86-64 installs.
-run: target/bin/trace
+run: readable target/bin/trace
+	@. tests/x86-64 && $$X86_RUN target/bin/trace <'$(TRACE)'
+
+# Comes first: for a trace that is not there nothing is proved.
+readable:
 	@[ -r '$(TRACE)' ] || { echo 'make run: there is no trace $(TRACE)' >&2; exit 1; }
-	@if [ "$$(uname -m)" = x86_64 ]; then target/bin/trace <'$(TRACE)'; \
-	else . tests/x86-64 && $$X86_RUN target/bin/trace <'$(TRACE)'; fi
 
 # Folders are sources too, so that a file that is gone is noticed.
 SOURCES = crates.txt $(shell find crates -name must-fail -prune -o -print)
+
+# What rt makes gets the time at which its proof began, so that what was edited meanwhile is newer.
+begin = mkdir -p build && touch build/started
+date = touch -c -r build/started $@
+
+# All that this prints goes to standard error: the output of `make run` is the report alone.
 target/bin/trace: $(SOURCES)
 	@$(rt)
-	@echo 'The program is proved before it is built: this takes a minute or two.'
-	rt check trace
-	@touch $@
+	@echo 'rt check trace: the program is proved before it is built, which takes a minute or two' >&2
+	@$(begin)
+	@rt check trace >&2
+	@$(date)
 
-# From bytes in hex, with comments behind a #, to a trace; xxd is a Debian package.
+# From bytes in hex, with comments behind a #, to a trace, which is replaced only when all of it is there.
 %.trace: %.hex
-	sed 's/#.*//' $< | xxd -r -p >$@
+	@mkdir -p build
+	perl -ne 's/#.*|\s//g; /^([0-9A-F]{2})*$$/i or die "$$ARGV:$$.: no bytes\n"; print pack "H*", $$_' $< >build/trace.new
+	@mv build/trace.new $@
 
 lib: build/libprushgoli.a build/prushgoli.h build/prushgoli.pc
 
-# The archive gets the time at which its proof began, so that what was edited meanwhile is newer.
 build/libprushgoli.a: $(SOURCES)
 	@$(rt)
-	@mkdir -p build
-	@touch build/started
+	@$(begin)
 	rt staticlib prushgoli
 	cp target/staticlib/libprushgoli.a $@
-	@touch -r build/started $@
+	@$(date)
 
 build/prushgoli.h: include/prushgoli.h
 	@mkdir -p build
 	cp $< $@
 
-# $(call pc,PREFIX,LIB,INCLUDE): the text of the .pc file, for a prefix and the folders below it.
-pc = sed -e 's|@prefix@|$(1)|' -e 's|@lib@|$(2)|' -e 's|@include@|$(3)|' prushgoli.pc.in
+# $(call pc,PREFIX,LIB,INCLUDE): the text of the .pc file, for a prefix (the shell has it in double quotes) and the
+# folders below it. pkg-config wants a backslash before a space.
+pc = sed -e "s|@prefix@|$(1)|" -e '/^prefix=/s/ /\\ /g' -e 's|@lib@|$(2)|' -e 's|@include@|$(3)|' prushgoli.pc.in
 
 # The one in build/ is for use from there: PKG_CONFIG_PATH=build.
 build/prushgoli.pc: prushgoli.pc.in
 	@mkdir -p build
-	$(call pc,$${pcfiledir}) >$@
+	$(call pc,\$${pcfiledir}) >$@
 
 to = $(DESTDIR)$(PREFIX)
 install: lib
-	install -d $(to)/lib/pkgconfig $(to)/include
-	install -m 644 build/libprushgoli.a $(to)/lib
-	install -m 644 build/prushgoli.h $(to)/include
-	$(call pc,$(abspath $(PREFIX)),/lib,/include) | install -m 644 /dev/stdin $(to)/lib/pkgconfig/prushgoli.pc
+	install -d '$(to)/lib/pkgconfig' '$(to)/include'
+	install -m 644 build/libprushgoli.a '$(to)/lib'
+	install -m 644 build/prushgoli.h '$(to)/include'
+	$(call pc,$$(realpath -ms '$(PREFIX)'),/lib,/include) | install -m 644 /dev/stdin '$(to)/lib/pkgconfig/prushgoli.pc'
 
 clean:
 	rm -rf build

@@ -154,11 +154,11 @@ static inline const char *prushgoli_reason(unsigned refusal)
     case PRUSHGOLI_ACCEPTED: return "accepted";
     case PRUSHGOLI_PAYLOAD_TOO_LONG: return "payload longer than 7 bytes";
     case PRUSHGOLI_ROOM_SHORT: return "room is short";
-    case PRUSHGOLI_FIELD_LENGTH: return "field of 1 byte or more than 8 bytes";
+    case PRUSHGOLI_FIELD_LENGTH: return "field of 1 byte or more than 8 bytes, or such a DLC";
     case PRUSHGOLI_BREAK_BIT: return "wrong break bit";
     case PRUSHGOLI_ESCAPE: return "an escape where a byte must be";
     case PRUSHGOLI_NO_WORD: return "nine bits that are no word";
-    case PRUSHGOLI_PADDING: return "padding other than the table's";
+    case PRUSHGOLI_PADDING: return "padding other than 0, 1, 0, 1 and so on";
     case PRUSHGOLI_IDENTIFIER: return "identifier above 2047";
     case PRUSHGOLI_LINE_BYTE: return "a line byte above 1";
     case PRUSHGOLI_STUFF_BIT: return "sixth equal bit where a stuff bit is due";

@@ -14,7 +14,7 @@
 #include "second.h"
 
 enum { SECOND, ARCHIVE, PROGRAMS };
-enum { GUARD = 16, LENT = 128, BUFFER = GUARD + LENT + GUARD, MOST_DIFFERENCES = 10, REFUSALS = 16 };
+enum { GUARD = 16, LENT = 128, BUFFER = GUARD + LENT + GUARD, MOST_DIFFERENCES = 10, REFUSALS = 32 };
 
 static const char *const calls[CALLS] = {"encode", "decode", "frame_length", "frame_bounds", "make_frame", "read_line"};
 
