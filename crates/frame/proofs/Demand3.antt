@@ -2,6 +2,7 @@
 --     crc-four          at most four stuff bits follow CRC bits
 --     line-counts       the line's bits are those of its parts and the stuff bits that follow header, data and CRC bits
 --     line-between      where none follows a data bit, the line has the bits of its parts, h, and at most four more
+--     line-few          whatever header and data field, a line of at most 19 and 64 bits has at most 132
 --     header-alone      the stuff bits that follow header bits on the whole line hang on identifier and DLC alone: they are h
 --     data-none         no stuff bit follows a bit of the data field
 --     frame-between     the line has 44 + 8n + h to 48 + 8n + h bits
@@ -61,6 +62,12 @@ module _ (headerBits dataBits : List ℕ) where
       let bits = line-counts in
       let four = crc-four in
       (omega arith, omega arith)
+
+  pub line-few : length headerBits ≤ 19 → length dataBits ≤ 64 → length (lineOf headerBits dataBits) ≤ 132
+  line-few front few =
+      let before = stuff-weight nothingSent headerBits (omega arith) in
+      let within = stuff-weight (headerRun headerBits) dataBits (before .1) in
+      omega (arith, line-counts, after-header headerBits dataBits, after-data headerBits dataBits, crc-four, before .0, within .0)
 
 -- the header's last bit is the DLC's lowest
 header-front : (identifier n : ℕ) → header identifier n ≡ take 18 (header identifier n) ++ ((n % 2) ∷ [])

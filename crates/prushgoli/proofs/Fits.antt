@@ -27,12 +27,12 @@ encode-fits payload room a = fits answerNumbers 9 a (encodeAnswer payload room) 
 pub decode-fits : (field : List ℕ) (room : ℕ) (a : Answer) → a ≡ decodeAnswer field room → Below (2 ^ 16) (answerNumbers a)
 decode-fits field room a = fits answerNumbers 8 a (decodeAnswer field room) (omega arith) (decode-small field room)
 
-module _ (identifier : ℕ) (payload : List ℕ) (bytes : Below 256 payload) where
+module _ (identifier : ℕ) (payload : List ℕ) where
   pub length-fits : (a : Answer) → a ≡ lengthAnswer identifier payload → Below (2 ^ 16) (answerNumbers a)
-  length-fits a = fits answerNumbers 117 a (lengthAnswer identifier payload) (omega arith) (length-small identifier payload bytes)
+  length-fits a = fits answerNumbers 133 a (lengthAnswer identifier payload) (omega arith) (length-small identifier payload)
 
   pub make-fits : (room : ℕ) (a : Answer) → a ≡ makeAnswer identifier payload room → Below (2 ^ 16) (answerNumbers a)
-  make-fits room a = fits answerNumbers 117 a (makeAnswer identifier payload room) (omega arith) (make-small identifier payload bytes room)
+  make-fits room a = fits answerNumbers 133 a (makeAnswer identifier payload room) (omega arith) (make-small identifier payload room)
 
 pub bounds-fit : (identifier size : ℕ) (b : Bounds) → b ≡ boundsAnswer identifier size → Below (2 ^ 16) (boundsNumbers b)
 bounds-fit identifier size b = fits boundsNumbers 117 b (boundsAnswer identifier size) (omega arith) (bounds-small identifier size)

@@ -1,8 +1,6 @@
 -- `prushgoli::prushgoli_frame_length` meets its contract: it passes on what `frame::frame_length` answered. Assumes nothing.
 use mathlib.Core.Path.{ap, _∙_}
-use native.Mathlib.Omega.{arith}
 use borrow.Author.Needs.{needs}
-use Rattle.bits.proofs.Below.{below-at}
 use Rattle.prushgoli.specs.Packing.{packedAnswer}
 use Rattle.prushgoli.proofs.Fits.{length-fits}
 use Rattle.prushgoli.proofs.prushgoli_frame_length.Statement.{statement}
@@ -12,9 +10,7 @@ frame-length-requires : tie.Need-frame-length-requires
 frame-length-requires c κs = search needs
 
 answer-requires : tie.Need-answer-requires
-answer-requires c κs =
-    let payload = c .before .before .args .payload .now in
-    length-fits _ payload (below-at 256 payload (λ i. omega (arith, c .before .shared-slice-known .given i))) _ (c .frame-length .ensures)
+answer-requires c κs = length-fits _ _ _ (c .frame-length .ensures)
 
 returns : tie.Need-returns
 returns c = c .answer .ensures ∙ ap packedAnswer (c .before .frame-length .ensures)

@@ -1,7 +1,5 @@
 -- `prushgoli::prushgoli_make_frame` meets its contract: it passes on what `frame::make_frame` answered and left. Assumes nothing.
-use native.Mathlib.Omega.{arith}
 use borrow.Author.Needs.{needs}
-use Rattle.bits.proofs.Below.{below-at}
 use Rattle.refusals.specs.After.{after}
 use Rattle.refusals.specs.declared.Answer.{Answer}
 use Rattle.frame.specs.Answers.{payloadLine}
@@ -15,9 +13,7 @@ make-frame-requires : tie.Need-make-frame-requires
 make-frame-requires c κs = search needs
 
 answer-requires : tie.Need-answer-requires
-answer-requires c κs =
-    let payload = c .before .before .before .before .before .before .args .payload .now in
-    make-fits _ payload (below-at 256 payload (λ i. omega (arith, c .before .before .before .before .before .shared-slice-known .given i))) _ _ (c .before .before .make-frame .ensures .0)
+answer-requires c κs = make-fits _ _ _ _ (c .before .before .make-frame .ensures .0)
 
 same-length : tie.Need-same-length
 same-length c = search needs
