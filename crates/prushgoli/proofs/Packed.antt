@@ -1,5 +1,6 @@
 -- Packing loses nothing. Assumes nothing.
 --     low-back, number-back, high-back    each part of a packed number is got back from it
+--     answer-refusal, line-refusal    bits 16 to 31 are the refusal's number among the document's numbers, 0 for none
 --     answer-packs, bounds-pack, line-packs    an answer is packed into a number that tells which answer it was
 --     same-packed    a call that passes an answer on says what that answer says
 use mathlib.Core.Path.{_≡_, sym, ap, ap₂, _∙_}
@@ -7,6 +8,7 @@ use mathlib.Core.List.{List}
 use Prim.Native.Nat.{ℕ, _/_, _%_, _^_, _<_}
 use native.Mathlib.Omega.{arith}
 use lib.Dec.{lit<}
+use lib.ListN.{getD}
 use Rattle.bits.specs.Below.{Below}
 use Rattle.refusals.specs.Table.{numberOf, placeOf, answerNumbers}
 use Rattle.refusals.specs.declared.Answer.{Answer}
@@ -34,6 +36,15 @@ module _ (low refusal high : ℕ) (l : low < 2 ^ 16) where
     pub high-back : pack low refusal high / 2 ^ 32 ≡ high
     unfolding pack
     high-back = omega arith
+
+pub answer-refusal : (a : Answer) → Below (2 ^ 16) (answerNumbers a) → packedAnswer a / 2 ^ 16 % 2 ^ 16 ≡ getD (answerNumbers a) 0 0
+answer-refusal (answer.Length n) b = number-back n 0 0 (b .1 .0) (lit< tt)
+answer-refusal (answer.Refused r) b = number-back (placeOf r) (numberOf r) 0 (b .1 .0) (b .0)
+
+pub line-refusal : (l : Line) → Below (2 ^ 16) (answerNumbers (answerOf l))
+    → packedLine l / 2 ^ 16 % 2 ^ 16 ≡ getD (answerNumbers (answerOf l)) 0 0
+line-refusal (line.Frame identifier n) b = number-back n 0 identifier (b .1 .0) (lit< tt)
+line-refusal (line.Refused r) b = number-back (placeOf r) (numberOf r) 0 (b .1 .0) (b .0)
 
 pack-only : (l r h l′ r′ h′ : ℕ) → l < 2 ^ 16 → r < 2 ^ 16 → l′ < 2 ^ 16 → r′ < 2 ^ 16 → pack l r h ≡ pack l′ r′ h′
     → (l ≡ l′) × (r ≡ r′) × (h ≡ h′)
