@@ -1,6 +1,6 @@
 -- `field::encode` meets its contract: what the payload is coded into decides the answer, room permitting. Assumes nothing.
-use mathlib.Core.Path.{_≡_, refl, sym, ap, _∙_, subst}
-use Prim.Native.Nat.{ℕ, _≤_}
+use mathlib.Core.Path.{_≡_, refl, sym, ap, _∙_}
+use native.Mathlib.Omega.{arith}
 use borrow.Author.Needs.{needs}
 use lib.ListN.{length}
 use Rattle.refusals.specs.declared.Answer.the-variants.{Length, Refused}
@@ -36,7 +36,8 @@ returns c =
 store-requires : tie.Need-store-requires
 store-requires c κs =
     let coded = c .before .before .before in
-    (subst (λ (n : ℕ). n ≤ 8) (sym (bytes coded)) (fieldBytes-few _ (found coded .short)), c .before .if1 .left)
+    let few = fieldBytes-few _ (found coded .short) in
+    (omega (arith, bytes coded, few), omega (arith, c .before .if1 .left))
 
 enum-known-refusal : tie.Need-enum-known-refusal
 enum-known-refusal c = search needs
