@@ -11,5 +11,4 @@ pub mod PayloadLine
 pub mod FrameAnswers
 pub mod BoundsAnswers
 pub mod Reported
-pub mod Examples
 pub mod Small

@@ -1,0 +1,173 @@
+-- Demand 1: every public call ends with an answer for every input of every length, and after a refusal every lent buffer holds its old
+-- bytes. Of each public entry, C's and Rattle's: its contract asks nothing of the inputs, allows one answer and one content of the lent
+-- buffer, and with a refusal the old one. `Asked` and `Learnt` are the toolchain's readings of the entry's own clauses: what they ask of
+-- a caller and what they tell it. Inputs, and memory behind the call, are in the order of the parameters: .0 the first, .1 .0 the second.
+-- What each call checks is in Refusals. Assumes nothing.
+--     c-encode-settled and five more    the calls for C
+--     encode-settled and nineteen more    the calls in Rattle
+use mathlib.Core.Path.{_≡_, refl, ap, subst, _∙_}
+use mathlib.Core.List.{List}
+use Prim.Native.Nat.{ℕ, _<_}
+use native.Mathlib.Omega.{arith}
+use contract.Lifetimes.{Lfts}
+use denote.Ref.{now}
+use lib.ListN.{length}
+use Rattle.refusals.specs.declared.Answer.{Answer}
+use Rattle.refusals.specs.declared.Answer.the-variants.{Length, Refused}
+use Rattle.refusals.specs.After.{after}
+use Rattle.field.specs.Field.{fieldOf}
+use Rattle.field.specs.Encode.{encodeAnswer}
+use Rattle.field.specs.Decode.{decodeAnswer, payloadOf}
+use Rattle.frame.specs.Answers.{payloadLine, makeAnswer}
+use Rattle.line.specs.Read.{readAnswer, payloadIn}
+use Rattle.line.specs.Read as line
+use Rattle.report.specs.Report as report
+use Rattle.prushgoli.proofs.Packed.{answer-refusal, line-refusal}
+use Rattle.prushgoli.proofs.Fits.{encode-fits, decode-fits, make-fits, read-fits}
+use Rattle.demands.specs.Settled.{refusalNumber, refusalPacked, Settled, SettledWith}
+use Rattle.demands.proofs.Settled.{settled, settled-with}
+use Rattle.prushgoli.proofs.prushgoli_encode.Reads as c-encode
+use Rattle.prushgoli.proofs.prushgoli_decode.Reads as c-decode
+use Rattle.prushgoli.proofs.prushgoli_make_frame.Reads as c-make-frame
+use Rattle.prushgoli.proofs.prushgoli_frame_length.Reads as c-frame-length
+use Rattle.prushgoli.proofs.prushgoli_frame_bounds.Reads as c-frame-bounds
+use Rattle.prushgoli.proofs.prushgoli_read_line.Reads as c-read-line
+use Rattle.field.proofs.encode.Reads as encode
+use Rattle.field.proofs.decode.Reads as decode
+use Rattle.field.proofs.encoding.code.Reads as code
+use Rattle.field.proofs.decoding.decode_number.Reads as decode-number
+use Rattle.field.proofs.table.rows.Reads as rows
+use Rattle.frame.proofs.make_frame.Reads as make-frame
+use Rattle.frame.proofs.frame_length.Reads as frame-length
+use Rattle.frame.proofs.frame_bounds.Reads as frame-bounds
+use Rattle.frame.proofs.crc.of_frame.Reads as of-frame
+use Rattle.line.proofs.read_line.Reads as read-line
+use Rattle.words.proofs.word.Reads as word
+use Rattle.words.proofs.word_in.Reads as word-in
+use Rattle.words.proofs.look_up.Reads as look-up
+use Rattle.words.proofs.symbol_in.Reads as symbol-in
+use Rattle.words.proofs.word_list.list.Reads as word-list
+use Rattle.words.proofs.reverse_list.list.Reads as reverse-list
+use Rattle.refusals.proofs.Refusal.number.Reads as number
+use Rattle.refusals.proofs.Refusal.place.Reads as place
+use Rattle.records.proofs.record_at.Reads as record-at
+use Rattle.report.proofs.line_at.Reads as line-at
+
+-- what is left where an answer is a refusal, and where the number that packs it says so
+refused-old : (a : Answer) (result old : List ℕ) → 0 < refusalNumber a → after a result old ≡ old
+refused-old (Length n) result old refused = absurd (omega (arith, refused))
+refused-old (Refused refusal) result old refused = refl
+
+packed-old : (a : Answer) {n m : ℕ} (result old : List ℕ) → refusalPacked m ≡ refusalNumber a → n ≡ m → 0 < refusalPacked n
+    → after a result old ≡ old
+packed-old a result old told is refused = refused-old a result old (subst (λ (k : ℕ). 0 < k) (ap refusalPacked is ∙ told) refused)
+
+-- ---- the calls for C: an answer is one number, in which the refusal has bits 16 to 31
+
+pub c-encode-settled : (κs : Lfts 2)
+    → SettledWith (c-encode.Asked κs) (c-encode.Learnt κs) refusalPacked (λ i. now (i .1 .0)) (λ s. now (s .1 .0))
+c-encode-settled κs =
+    settled-with (λ i. tt) (λ i a s says. says) (λ i a is refused.
+    let answer = encodeAnswer (now (i .0)) (length (now (i .1 .0))) in
+    packed-old answer (fieldOf (now (i .0))) (now (i .1 .0)) (answer-refusal answer (encode-fits _ _ answer refl)) is refused)
+
+pub c-decode-settled : (κs : Lfts 2)
+    → SettledWith (c-decode.Asked κs) (c-decode.Learnt κs) refusalPacked (λ i. now (i .1 .0)) (λ s. now (s .1 .0))
+c-decode-settled κs =
+    settled-with (λ i. tt) (λ i a s says. says) (λ i a is refused.
+    let answer = decodeAnswer (now (i .0)) (length (now (i .1 .0))) in
+    packed-old answer (payloadOf (now (i .0))) (now (i .1 .0)) (answer-refusal answer (decode-fits (now (i .0)) (length (now (i .1 .0))) answer refl)) is refused)
+
+pub c-make-frame-settled : (κs : Lfts 2)
+    → SettledWith (c-make-frame.Asked κs) (c-make-frame.Learnt κs) refusalPacked (λ i. now (i .1 .1 .0)) (λ s. now (s .1 .1 .0))
+c-make-frame-settled κs =
+    settled-with (λ i. tt) (λ i a s says. says) (λ i a is refused.
+    let answer = makeAnswer (i .0) (now (i .1 .0)) (length (now (i .1 .1 .0))) in
+    packed-old answer (payloadLine (i .0) (now (i .1 .0))) (now (i .1 .1 .0)) (answer-refusal answer (make-fits _ _ _ answer refl)) is refused)
+
+pub c-frame-length-settled : (κs : Lfts 1) → Settled (c-frame-length.Asked κs) (c-frame-length.Learnt κs)
+c-frame-length-settled κs = settled (λ i. tt) (λ i a s says. says)
+
+pub c-frame-bounds-settled : (κs : Lfts 0) → Settled (c-frame-bounds.Asked κs) (c-frame-bounds.Learnt κs)
+c-frame-bounds-settled κs = settled (λ i. tt) (λ i a s says. says)
+
+pub c-read-line-settled : (κs : Lfts 2)
+    → SettledWith (c-read-line.Asked κs) (c-read-line.Learnt κs) refusalPacked (λ i. now (i .1 .0)) (λ s. now (s .1 .0))
+c-read-line-settled κs =
+    settled-with (λ i. tt) (λ i a s says. says) (λ i a is refused.
+    let answer = readAnswer (now (i .0)) (length (now (i .1 .0))) in
+    packed-old (line.answerOf answer) (payloadIn (now (i .0))) (now (i .1 .0)) (line-refusal answer (read-fits _ _ answer refl)) is refused)
+
+-- ---- the data field
+
+pub encode-settled : (κs : Lfts 2)
+    → SettledWith (encode.Asked κs) (encode.Learnt κs) refusalNumber (λ i. now (i .1 .0)) (λ s. now (s .1 .0))
+encode-settled κs = settled-with (λ i. tt) (λ i a s says. says) (λ i a is refused. refused-old a _ _ refused)
+
+pub decode-settled : (κs : Lfts 2)
+    → SettledWith (decode.Asked κs) (decode.Learnt κs) refusalNumber (λ i. now (i .1 .0)) (λ s. now (s .1 .0))
+decode-settled κs = settled-with (λ i. tt) (λ i a s says. says) (λ i a is refused. refused-old a _ _ refused)
+
+pub code-settled : (κs : Lfts 1) → Settled (code.Asked κs) (code.Learnt κs)
+code-settled κs = settled (λ i. tt) (λ i a s says. says)
+
+pub decode-number-settled : (κs : Lfts 1)
+    → SettledWith (decode-number.Asked κs) (decode-number.Learnt κs) refusalNumber (λ i. now (i .1 .1 .0)) (λ s. now (s .1 .1 .0))
+decode-number-settled κs = settled-with (λ i. tt) (λ i a s says. says) (λ i a is refused. refused-old a _ _ refused)
+
+pub rows-settled : (κs : Lfts 0) → Settled (rows.Asked κs) (rows.Learnt κs)
+rows-settled κs = settled (λ i. tt) (λ i a s says. says)
+
+-- ---- the frame and its line
+
+pub make-frame-settled : (κs : Lfts 2)
+    → SettledWith (make-frame.Asked κs) (make-frame.Learnt κs) refusalNumber (λ i. now (i .1 .1 .0)) (λ s. now (s .1 .1 .0))
+make-frame-settled κs = settled-with (λ i. tt) (λ i a s says. says) (λ i a is refused. refused-old a _ _ refused)
+
+pub frame-length-settled : (κs : Lfts 1) → Settled (frame-length.Asked κs) (frame-length.Learnt κs)
+frame-length-settled κs = settled (λ i. tt) (λ i a s says. says)
+
+pub frame-bounds-settled : (κs : Lfts 0) → Settled (frame-bounds.Asked κs) (frame-bounds.Learnt κs)
+frame-bounds-settled κs = settled (λ i. tt) (λ i a s says. says)
+
+pub of-frame-settled : (κs : Lfts 0) → Settled (of-frame.Asked κs) (of-frame.Learnt κs)
+of-frame-settled κs = settled (λ i. tt) (λ i a s says. says)
+
+pub read-line-settled : (κs : Lfts 2)
+    → SettledWith (read-line.Asked κs) (read-line.Learnt κs) (λ a. refusalNumber (line.answerOf a)) (λ i. now (i .1 .0)) (λ s. now (s .1 .0))
+read-line-settled κs = settled-with (λ i. tt) (λ i a s says. says) (λ i a is refused. refused-old (line.answerOf a) _ _ refused)
+
+-- ---- words, refusals
+
+pub word-settled : (κs : Lfts 0) → Settled (word.Asked κs) (word.Learnt κs)
+word-settled κs = settled (λ i. tt) (λ i a s says. says)
+
+pub word-in-settled : (κs : Lfts 1) → Settled (word-in.Asked κs) (word-in.Learnt κs)
+word-in-settled κs = settled (λ i. tt) (λ i a s says. says)
+
+pub look-up-settled : (κs : Lfts 0) → Settled (look-up.Asked κs) (look-up.Learnt κs)
+look-up-settled κs = settled (λ i. tt) (λ i a s says. says)
+
+pub symbol-in-settled : (κs : Lfts 1) → Settled (symbol-in.Asked κs) (symbol-in.Learnt κs)
+symbol-in-settled κs = settled (λ i. tt) (λ i a s says. says)
+
+pub word-list-settled : (κs : Lfts 0) → Settled (word-list.Asked κs) (word-list.Learnt κs)
+word-list-settled κs = settled (λ i. tt) (λ i a s says. says)
+
+pub reverse-list-settled : (κs : Lfts 0) → Settled (reverse-list.Asked κs) (reverse-list.Learnt κs)
+reverse-list-settled κs = settled (λ i. tt) (λ i a s says. says)
+
+pub number-settled : (κs : Lfts 0) → Settled (number.Asked κs) (number.Learnt κs)
+number-settled κs = settled (λ i. tt) (λ i a s says. says)
+
+pub place-settled : (κs : Lfts 0) → Settled (place.Asked κs) (place.Learnt κs)
+place-settled κs = settled (λ i. tt) (λ i a s says. says)
+
+-- ---- traces
+
+pub record-at-settled : (κs : Lfts 1) → Settled (record-at.Asked κs) (record-at.Learnt κs)
+record-at-settled κs = settled (λ i. tt) (λ i a s says. says)
+
+pub line-at-settled : (κs : Lfts 2)
+    → SettledWith (line-at.Asked κs) (line-at.Learnt κs) (λ a. refusalNumber (report.answerOf a)) (λ i. now (i .1 .1 .1 .0)) (λ s. now (s .1 .1 .1 .0))
+line-at-settled κs = settled-with (λ i. tt) (λ i a s says. says) (λ i a is refused. refused-old (report.answerOf a) _ _ refused)

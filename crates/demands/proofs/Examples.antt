@@ -1,0 +1,30 @@
+-- Document 01's worked cases that are to be proved, those marked *, as one statement over one list; and those of bounds, which
+-- have no star. Assumes nothing.
+--     starred-right    what the definitions give in each case is what the document says
+--     bounds-right     the same of the bounds
+use mathlib.Core.Path.{_≡_, refl}
+use mathlib.Core.List.{map}
+use Rattle.bits.specs.Rows.{bits, number}
+use Rattle.bits.specs.Packing.{unpacked, packed}
+use Rattle.bits.specs.Neighbours.{equalNeighbours}
+use Rattle.bits.specs.Stuffing.{stuffAfter, runAfter, stuffed, stuffCount, runAfterRow}
+use Rattle.words.specs.Words.{words, wordOf}
+use Rattle.words.specs.Symbols.{placeIn, symbolOf}
+use Rattle.field.specs.Padding.{padding}
+use Rattle.field.specs.Field.{fieldBits, fieldOf}
+use Rattle.field.specs.Parts.{breakPart, wordsPart, paddingPart}
+use Rattle.field.specs.Decode.{decodeAnswer}
+use Rattle.frame.specs.Header.{header}
+use Rattle.frame.specs.Crc.{xor, divide, remainder, crc}
+use Rattle.frame.specs.Line.{crcBits, stuffedRow, lineOf, frameLine}
+use Rattle.frame.specs.StuffBits.{stuffBitsIn, headerStuffBits}
+use Rattle.frame.specs.Answers.{lengthAnswer, boundsAnswer}
+use Rattle.demands.specs.Cases.{starred, ofBounds, found, said}
+
+pub starred-right : map found starred ≡ map said starred
+unfolding bits number unpacked packed equalNeighbours words wordOf placeIn symbolOf padding fieldBits fieldOf breakPart wordsPart paddingPart decodeAnswer stuffAfter runAfter stuffed stuffCount runAfterRow header xor divide remainder crc crcBits stuffedRow lineOf frameLine stuffBitsIn lengthAnswer
+starred-right = refl
+
+pub bounds-right : map found ofBounds ≡ map said ofBounds
+unfolding bits stuffAfter runAfter stuffCount header headerStuffBits boundsAnswer
+bounds-right = refl
