@@ -11,7 +11,7 @@
  *
  * The helpers at the end take it apart:
  *
- *     uint8_t field[PRUSHGOLI_FIELD_MOST];
+ *     uint8_t field[PRUSHGOLI_FIELD_MOST] = {0};
  *     uint64_t a = prushgoli_encode(payload, payload_len, field, sizeof field);
  *     if (prushgoli_refusal(a) != PRUSHGOLI_ACCEPTED)
  *         complain(prushgoli_reason(prushgoli_refusal(a)), prushgoli_place(a));
@@ -21,10 +21,12 @@
  * What holds of every call:
  *   - A refusal leaves every lent buffer with its old bytes. On success only the bytes of the result are written, at
  *     the start of the buffer; those after them keep their values.
- *   - A slice is a pointer and a length. With length 0 the pointer is never used and may be NULL.
+ *   - A slice is a pointer and a length: so many bytes, each set to something, also in a buffer that is lent, and
+ *     written by nobody else during the call. With length 0 the pointer is never used and may be NULL.
  *   - The two slices of a call must not overlap: nothing can be coded in place.
  *   - The answer is all there is: no errno, no heap, no global state. Calls are re-entrant. A call takes less than 2 KB
- *     of stack and uses vector registers: an interrupt handler that calls one has to save these.
+ *     of stack, the 128 bytes below the stack pointer that the x86-64 ABI grants, and vector registers: an interrupt
+ *     handler that calls one has to save these, and any handler on the same stack to leave those bytes alone.
  */
 #ifndef PRUSHGOLI_H
 #define PRUSHGOLI_H

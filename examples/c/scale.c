@@ -60,7 +60,7 @@ static bool send_weight(struct mailbox *box, const uint8_t *payload)
 
 static bool print_label(const struct mailbox *box)
 {
-    uint8_t payload[PRUSHGOLI_PAYLOAD_MOST];
+    uint8_t payload[PRUSHGOLI_PAYLOAD_MOST] = {0};
     uint64_t answer = prushgoli_decode(box->data, box->dlc, payload, sizeof payload);
     if (!accepted("labeller", answer))
         return false;
@@ -75,7 +75,7 @@ static bool print_label(const struct mailbox *box)
 /* What a recorder sees on the wire, and reads from it. */
 static bool record(const uint8_t *payload)
 {
-    uint8_t line[PRUSHGOLI_LINE_ROOM], read[PRUSHGOLI_PAYLOAD_MOST];
+    uint8_t line[PRUSHGOLI_LINE_ROOM] = {0}, read[PRUSHGOLI_PAYLOAD_MOST] = {0};
     uint64_t told = prushgoli_frame_length(NET_WEIGHT, payload, WEIGHT_BYTES);
     uint64_t made = prushgoli_make_frame(NET_WEIGHT, payload, WEIGHT_BYTES, line, sizeof line);
     if (!accepted("wire", told) || !accepted("wire", made))
