@@ -25,8 +25,8 @@
  *     written by nobody else during the call. With length 0 the pointer is never used and may be NULL.
  *   - The two slices of a call must not overlap: nothing can be coded in place.
  *   - The answer is all there is: no errno, no heap, no global state. Calls are re-entrant. A call takes less than 2 KB
- *     of stack, the 128 bytes below the stack pointer that the x86-64 ABI grants, and vector registers: an interrupt
- *     handler that calls one has to save these, and any handler on the same stack to leave those bytes alone.
+ *     of stack (measured), the 128 bytes below the stack pointer that the x86-64 ABI grants, and vector registers: an
+ *     interrupt handler that calls one has to save these, and any handler on the same stack to leave those bytes alone.
  */
 #ifndef PRUSHGOLI_H
 #define PRUSHGOLI_H

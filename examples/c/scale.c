@@ -95,7 +95,7 @@ static bool record(const uint8_t *payload)
 int main(void)
 {
     const uint8_t payload[WEIGHT_BYTES] = {0x00, 0x00, 0x04, 0xE2}; /* 1250 g, high byte first */
-    struct mailbox box;
+    struct mailbox box = {0};
     if (!plan() || !send_weight(&box, payload) || !print_label(&box) || !record(payload))
         return 1;
     /* A bit that flips in memory. Some would make another word, and another weight: coding does not replace a CRC. */
