@@ -1,5 +1,5 @@
 # Prushgoli. `make test` is the whole gate, `make run` the program trace on an example, `make lib` the library for C.
-.PHONY: help test can-fail run readable lib install clean
+.PHONY: help test evidence can-fail run readable lib install clean
 .DELETE_ON_ERROR:
 # Two runs of rt would share target/.
 .NOTPARALLEL:
@@ -12,33 +12,57 @@ help:
 	@echo 'make lib    prove and build the library for C: libprushgoli.a, prushgoli.h and prushgoli.pc in build/'
 	@echo 'make install [PREFIX=/usr/local] [DESTDIR=]   install these three'
 	@echo 'make test   run every test and prove every crate from nothing; the last line is: N passed, 0 failed'
+	@echo 'make evidence   a page of runs for the inspector, build/evidence/index.html; runs the gate where its record is old'
 	@echo 'make can-fail   show that the comparisons notice wrong programs'
 	@echo 'make clean  remove build/; what rt has proved stays'
 
 rt = command -v rt >/dev/null || { echo 'make $@: the Rattle toolchain is missing (no command rt)' >&2; exit 1; }
 
+# What a step of the gate prints is kept too, in build/gate: the record that `make evidence` shows.
+keep = 2>&1 | tee build/gate
+
 # What needs no proof comes first. `rt ci` removes target/ and proves everything from nothing; the library and the program
-# are then built from what it left, not proved a second time. Its closing line is the gate's: it is said again at the end.
+# are then built from what it left, not proved a second time. evidence/build makes the page and has tests/evidence check it.
+# The closing line of `rt ci` is the gate's: it is said again at the end.
 test: SHELL = /bin/bash -o pipefail
 test:
 	@$(rt)
-	rt version
-	rt fmt --check
-	tests/total
-	tests/header
-	@rm -rf build && mkdir build
-	rt ci | tee build/ci
-	$(MAKE) lib target/bin/trace
-	tests/archive
-	tests/example
-	tests/compare/run
-	tests/trace/run
-	tests/first
-	@tail -n 1 build/ci
+	@. tests/x86-64 && x86_need 'command -v python3' python3
+	@rm -rf build && mkdir -p build/gate
+	@{ evidence/source && echo "machine $$(uname -m)" && echo "cores $$(nproc)" && date +'time %s'; } >build/gate/begin
+	rt version $(keep)/version
+	rt fmt --check $(keep)/fmt
+	tests/total $(keep)/total
+	tests/documents
+	tests/header $(keep)/header
+	rt ci $(keep)/ci
+	tests/documents target/must-fail $(keep)/documents
+	$(MAKE) lib target/bin/trace $(keep)/lib
+	tests/archive $(keep)/archive
+	tests/example $(keep)/example
+	tests/compare/run $(keep)/compare
+	tests/trace/run $(keep)/trace
+	tests/first $(keep)/first
+	@date +'time %s' >build/gate/end && touch -r build/gate/begin build/gate/end
+	evidence/build
+	@tail -n 1 build/gate/ci
+
+# The page is made anew each time: it names the commit, of which make knows nothing.
+evidence: build/gate/end lib
+	@evidence/build
+	@echo build/evidence/index.html
+
+# Has the time at which the gate began. The gate makes the page itself, not by these rules, so that it never starts itself.
+# A trace is left out: it would be made anew from its .hex, and be newer than the gate.
+build/gate/end: $(filter-out %.trace,$(shell evidence/tested folders))
+	@echo 'make evidence: there is no record of the gate on these sources; it runs first, a quarter of an hour to twenty-five minutes' >&2
+	@$(MAKE) test
 
 can-fail: lib target/bin/trace
 	tests/compare/can-fail
 	tests/trace/can-fail
+	@if [ -f build/evidence/index.html ]; then tests/evidence/can-fail; \
+	else echo 'make can-fail: no fault of the page was tried: there is none, make evidence makes it' >&2; fi
 
 # On a machine that is not x86-64 the program runs under qemu, which tests/x86-64 installs.
 run: readable target/bin/trace

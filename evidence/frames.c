@@ -1,0 +1,140 @@
+/* Sends frames, with the payload as it is (plain) and coded in 8B9B, and counts the lengths met. The 8B9B frame is the
+ * archive's. The plain one has the payload's bytes as its data field, and is built by the second program. */
+#include "frames.h"
+
+#include <prushgoli.h>
+#include <stdio.h>
+#include <string.h>
+
+#include "frame.h"
+
+enum { IDENTIFIERS = 2048, LENGTHS = 160, NO_BIT = 2 };
+
+struct range {
+    unsigned shortest, longest;
+};
+
+static struct {
+    unsigned long frames, reported, within, back;
+    unsigned long plain[LENGTHS], coded[LENGTHS][LENGTHS]; /* coded: by the least bound, then by the length */
+} met;
+
+static struct range plain_of[IDENTIFIERS], coded_of[IDENTIFIERS];
+
+static void widen(struct range *range, unsigned length)
+{
+    if (range->longest == 0 || length < range->shortest)
+        range->shortest = length;
+    if (length > range->longest)
+        range->longest = length;
+}
+
+static unsigned widest(const struct range *range)
+{
+    unsigned most = 0;
+    for (size_t i = 0; i < IDENTIFIERS; i++)
+        if (range[i].longest - range[i].shortest > most)
+            most = range[i].longest - range[i].shortest;
+    return most;
+}
+
+static void send_plain(uint32_t identifier, const uint8_t *payload, size_t size)
+{
+    struct row field = {.length = 0};
+    for (size_t i = 0; i < size; i++)
+        append_number(&field, payload[i], 8);
+    unsigned length = (unsigned)line_of(identifier, (unsigned)size, &field).length;
+    met.plain[length]++;
+    widen(&plain_of[identifier], length);
+}
+
+/* The bits are counted in the line itself, not taken from an answer. */
+static unsigned bits_of(const uint8_t *line, size_t room)
+{
+    unsigned bits = 0;
+    while (bits < room && line[bits] != NO_BIT)
+        bits++;
+    return bits;
+}
+
+static void send_coded(uint32_t identifier, const uint8_t *payload, size_t size)
+{
+    uint8_t line[LENGTHS], back[PRUSHGOLI_PAYLOAD_MOST] = {0};
+    memset(line, NO_BIT, sizeof line);
+    uint64_t bounds = prushgoli_frame_bounds(identifier, size);
+    uint64_t length = prushgoli_frame_length(identifier, payload, size);
+    uint64_t made = prushgoli_make_frame(identifier, payload, size, line, sizeof line);
+    unsigned bits = bits_of(line, sizeof line), least = prushgoli_least(bounds);
+    uint64_t read = prushgoli_read_line(line, bits, back, sizeof back);
+    met.reported += prushgoli_length(length) == bits && prushgoli_length(made) == bits;
+    met.within += least <= bits && bits <= prushgoli_most(bounds);
+    met.back += prushgoli_refusal(read) == PRUSHGOLI_ACCEPTED && prushgoli_identifier(read) == identifier &&
+                prushgoli_length(read) == size && memcmp(back, payload, size) == 0;
+    met.coded[least][bits]++;
+    widen(&coded_of[identifier], bits);
+}
+
+static void send(uint32_t identifier, const uint8_t *payload, size_t size)
+{
+    met.frames++;
+    send_plain(identifier, payload, size);
+    send_coded(identifier, payload, size);
+}
+
+static void print_met(const char *payloads, size_t size)
+{
+    printf("frames %s %zu %lu %lu %lu %lu\n", payloads, size, met.frames, met.reported, met.within, met.back);
+    for (unsigned length = 0; length < LENGTHS; length++)
+        if (met.plain[length] > 0)
+            printf("plain %s %zu %u %lu\n", payloads, size, length, met.plain[length]);
+    for (unsigned least = 0; least < LENGTHS; least++)
+        for (unsigned length = 0; length < LENGTHS; length++)
+            if (met.coded[least][length] > 0)
+                printf("coded %s %zu %u %u %lu\n", payloads, size, least, length, met.coded[least][length]);
+}
+
+static uint64_t random_number(void)
+{
+    static uint64_t state = SEED; /* splitmix64 */
+    uint64_t number = state += 0x9E3779B97F4A7C15;
+    number = (number ^ number >> 30) * 0xBF58476D1CE4E5B9;
+    number = (number ^ number >> 27) * 0x94D049BB133111EB;
+    return number ^ number >> 31;
+}
+
+/* Random identifiers with random payloads, of which each byte is as likely as any other. */
+static void send_random(size_t size)
+{
+    uint8_t payload[PRUSHGOLI_PAYLOAD_MOST];
+    memset(&met, 0, sizeof met);
+    for (unsigned long frame = 0; frame < RANDOM_FRAMES; frame++) {
+        uint64_t bytes = random_number();
+        for (size_t i = 0; i < size; i++)
+            payload[i] = (uint8_t)(bytes >> 8 * i);
+        send((uint32_t)(random_number() % IDENTIFIERS), payload, size);
+    }
+    print_met("random", size);
+}
+
+/* Every identifier with every payload that has no bytes but 00 and FF. */
+static void send_equal_bits(size_t size)
+{
+    uint8_t payload[PRUSHGOLI_PAYLOAD_MOST];
+    memset(&met, 0, sizeof met);
+    for (unsigned which = 0; which < 1U << size; which++) {
+        for (size_t i = 0; i < size; i++)
+            payload[i] = which >> i & 1 ? 0xFF : 0x00;
+        for (uint32_t identifier = 0; identifier < IDENTIFIERS; identifier++)
+            send(identifier, payload, size);
+    }
+    print_met("equal-bits", size);
+}
+
+void send_frames(size_t size)
+{
+    memset(plain_of, 0, sizeof plain_of);
+    memset(coded_of, 0, sizeof coded_of);
+    send_random(size);
+    send_equal_bits(size);
+    printf("spread %zu %u %u\n", size, widest(plain_of), widest(coded_of));
+}
