@@ -92,7 +92,7 @@ bit-stops place bit line refusal (wrong r) next a e later =
     let at : placeOf refusal ≡ place = sym (ap placeOf same) ∙ a .0 in
     record { from = omega (arith, at); inside = inl (omega (arith, at)); own = subst OfBits same (a .1) }
 
-stops : (run : Run) (frame : List ℕ) (place : ℕ) (line : List ℕ) (refusal : Refusal) → scan run frame place line ≡ stopped refusal
+pub stops : (run : Run) (frame : List ℕ) (place : ℕ) (line : List ℕ) (refusal : Refusal) → scan run frame place line ≡ stopped refusal
     → Stops place line refusal
 unfolding scan
 stops run frame place [] refusal e = end-stops frame place refusal (complete frame) e

@@ -7,6 +7,7 @@ pub mod Keeping
 pub mod FieldEnds
 pub mod ReadAnswers
 pub mod FirstProblem
+pub mod ProblemMet
 pub mod Sound
 pub mod OnLine
 pub mod AckSlot

@@ -87,3 +87,12 @@ scan run frame place (bit ∷ line) =
 -- a line from its first bit on: no run reaches in from before it
 unfoldable pub scanned : List ℕ → Scanned
 scanned line = scan nothingSent [] 0 line
+
+-- what is known behind the first bits of a line: the run that ends them, and the frame's bits among them
+unfoldable pub runBehind : Run → List ℕ → Run
+runBehind run [] = run
+runBehind run (bit ∷ line) = runBehind (runWith run bit) line
+
+unfoldable pub frameBehind : Run → List ℕ → List ℕ → List ℕ
+frameBehind run frame [] = frame
+frameBehind run frame (bit ∷ line) = frameBehind (runWith run bit) (frameWith run frame bit) line

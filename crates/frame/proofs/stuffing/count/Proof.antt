@@ -1,7 +1,7 @@
 -- `frame::stuffing::count` meets its contract. The invariant: the bits that are left lead where the whole part leads.
 -- Assumes nothing.
 use mathlib.Core.Path.{_≡_, refl, sym, ap, _∙_}
-use Prim.Native.Nat.{ℕ, _+_, _-_, _≤_, _<_}
+use Prim.Native.Nat.{ℕ, _+_, _≤_, _<_}
 use native.Mathlib.Nat.{add-zero}
 use native.Mathlib.Omega.{arith}
 use Rattle.bits.specs.Rows.{bits}

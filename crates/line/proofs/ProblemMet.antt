@@ -1,0 +1,73 @@
+-- What the first problem is: the verdict on the bit at its place, from what is known there; or the line ends before the frame does.
+-- Assumes nothing.
+--     problem-met    of a line that is refused for its bits
+use mathlib.Core.Path.{_≡_, refl, sym, ap, _∙_}
+use mathlib.Core.Bool.{Bool, true, false, cond}
+use mathlib.Core.List.{List, [], _∷_}
+use mathlib.Core.Logic.{_⊎_, inl, inr}
+use Prim.Native.Nat.{ℕ, zero, suc, _+_, _≤_, _<_}
+use native.Mathlib.Omega.{arith}
+use lib.ListN.{length, getD, take}
+use Rattle.bits.specs.declared.Run.{Run}
+use Rattle.bits.specs.Stuffing.{nothingSent}
+use Rattle.refusals.specs.declared.Refusal.{Refusal}
+use Rattle.refusals.specs.declared.Refusal.the-variants.{LineLength}
+use Rattle.refusals.specs.Table.{placeOf}
+use Rattle.line.specs.Scan.{complete, Verdict, right, wrong, verdict, runWith, frameWith, runBehind, frameBehind, Scanned, whole, stopped, onward, scan, scanned}
+use Rattle.line.proofs.FirstProblem.{At, verdict-at, never, stopped-only, stops}
+
+-- of the bits from a place on, the k-th bit is the problem, or there is none where one must be
+abbrev Problem : Run → List ℕ → ℕ → List ℕ → Refusal → ℕ → Type 0
+Problem run frame place line refusal k =
+    ((k < length line)
+    × (verdict (runBehind run (take k line)) (frameBehind run frame (take k line)) (place + k) (getD line k 0) ≡ wrong refusal))
+    ⊎ ((refusal ≡ LineLength (place + length line)) × (complete (frameBehind run frame line) ≡ false))
+
+problem-next : (run : Run) (frame : List ℕ) (place bit : ℕ) (line : List ℕ) (refusal : Refusal) (k : ℕ)
+    → Problem (runWith run bit) (frameWith run frame bit) (place + 1) line refusal k → Problem run frame place (bit ∷ line) refusal (suc k)
+unfolding runBehind frameBehind
+problem-next run frame place bit line refusal k (inl (inside, met)) =
+    let count : place + 1 + k ≡ place + suc k = omega arith in
+    inl (omega arith, rw count at met)
+problem-next run frame place bit line refusal k (inr (end, more)) =
+    let count : place + 1 + length line ≡ place + suc (length line) = omega arith in
+    inr (end ∙ ap LineLength count, more)
+
+problem : (run : Run) (frame : List ℕ) (place : ℕ) (line : List ℕ) (refusal : Refusal) (k : ℕ) → scan run frame place line ≡ stopped refusal
+    → placeOf refusal ≡ place + k → Problem run frame place line refusal k
+unfolding scan runBehind frameBehind
+problem run frame place [] refusal k e p = ending (complete frame) refl e
+  where
+    ending : (t : Bool) → complete frame ≡ t → cond t (whole frame) (stopped (LineLength place)) ≡ stopped refusal
+        → Problem run frame place [] refusal k
+    ending true d q = never q
+    ending false d q = let here : place ≡ place + 0 = omega arith in inr (sym (stopped-only q) ∙ ap LineLength here, d)
+problem run frame place (bit ∷ line) refusal k e p =
+    go (verdict run frame place bit) refl (verdict-at run frame place bit) e k p
+    (λ j. problem (runWith run bit) (frameWith run frame bit) (place + 1) line refusal j)
+    (λ q. stops (runWith run bit) (frameWith run frame bit) (place + 1) line refusal q .from)
+  where
+    next : Scanned
+    next = scan (runWith run bit) (frameWith run frame bit) (place + 1) line
+
+    go : (v : Verdict) → verdict run frame place bit ≡ v → At place v → onward v next ≡ stopped refusal
+        → (k : ℕ) → placeOf refusal ≡ place + k
+        → ((j : ℕ) → next ≡ stopped refusal → placeOf refusal ≡ place + 1 + j → Problem (runWith run bit) (frameWith run frame bit) (place + 1) line refusal j)
+        → (next ≡ stopped refusal → place + 1 ≤ placeOf refusal) → Problem run frame place (bit ∷ line) refusal k
+    go right d a q zero p later from = absurd (omega (arith, p, from q))
+    go right d a q (suc j) p later from = problem-next run frame place bit line refusal j (later j q (omega (arith, p)))
+    go (wrong r) d a q zero p later from =
+        let here : place ≡ place + 0 = omega arith in
+        inl (omega arith, ap (λ (n : ℕ). verdict run frame n bit) (sym here) ∙ d ∙ ap wrong (stopped-only q))
+    go (wrong r) d a q (suc j) p later from = absurd (omega (arith, p, a .0, ap placeOf (stopped-only q)))
+
+pub problem-met : (line : List ℕ) (refusal : Refusal) → scanned line ≡ stopped refusal →
+    let before = take (placeOf refusal) line in
+    ((placeOf refusal < length line)
+    × (verdict (runBehind nothingSent before) (frameBehind nothingSent [] before) (placeOf refusal) (getD line (placeOf refusal) 0) ≡ wrong refusal))
+    ⊎ ((refusal ≡ LineLength (length line)) × (complete (frameBehind nothingSent [] line) ≡ false))
+unfolding scanned
+problem-met line refusal e =
+    let at : 0 + placeOf refusal ≡ placeOf refusal = omega arith in
+    let end : 0 + length line ≡ length line = omega arith in
+    rw (at, end) at (problem nothingSent [] 0 line refusal (placeOf refusal) e (omega arith))
