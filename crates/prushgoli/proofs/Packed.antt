@@ -1,14 +1,15 @@
 -- Packing loses nothing. Assumes nothing.
 --     low-back, number-back, high-back    each part of a packed number is got back from it
---     answer-refusal, line-refusal    bits 16 to 31 are the refusal's number among the document's numbers, 0 for none
+--     answer-told, bounds-told, line-told    what C reads out of the number are the document's numbers of the answer
 --     answer-packs, bounds-pack, line-packs    an answer is packed into a number that tells which answer it was
 --     same-packed    a call that passes an answer on says what that answer says
 use mathlib.Core.Path.{_≡_, sym, ap, ap₂, _∙_}
-use mathlib.Core.List.{List}
-use Prim.Native.Nat.{ℕ, _/_, _%_, _^_, _<_}
+use mathlib.Core.Bool.{Bool, cond}
+use mathlib.Core.List.{List, [], _∷_}
+use Prim.Native.Nat.{ℕ, _^_, _<_}
 use native.Mathlib.Omega.{arith}
-use lib.Dec.{lit<}
-use lib.ListN.{getD}
+use lib.Dec.{eqb, lit<}
+use borrow.Author.Tests.{ne-eqb}
 use Rattle.bits.specs.Below.{Below}
 use Rattle.refusals.specs.Table.{numberOf, placeOf, answerNumbers}
 use Rattle.refusals.specs.declared.Answer.{Answer}
@@ -18,40 +19,56 @@ use Rattle.refusals.proofs.Table.{refusal-only, number-some}
 use Rattle.frame.specs.Answers.{boundsNumbers}
 use Rattle.frame.specs.declared.Bounds.{Bounds}
 use Rattle.frame.specs.declared.Bounds.the-variants as bounds
-use Rattle.line.specs.Read.{answerOf}
+use Rattle.line.specs.Read.{answerOf, lineNumbers}
 use Rattle.line.specs.declared.Line.{Line}
 use Rattle.line.specs.declared.Line.the-variants as line
-use Rattle.prushgoli.specs.Packing.{pack, packedRefusal, packedAnswer, packedBounds, packedLine}
+use Rattle.prushgoli.specs.Packing.{pack, packedRefusal, packedAnswer, packedBounds, packedLine, lowPart, refusalPart, highPart, answerTold, boundsTold, lineTold}
 
 module _ (low refusal high : ℕ) (l : low < 2 ^ 16) where
-  pub low-back : pack low refusal high % 2 ^ 16 ≡ low
+  pub low-back : lowPart (pack low refusal high) ≡ low
   unfolding pack
   low-back = omega arith
 
   module _ (r : refusal < 2 ^ 16) where
-    pub number-back : pack low refusal high / 2 ^ 16 % 2 ^ 16 ≡ refusal
+    pub number-back : refusalPart (pack low refusal high) ≡ refusal
     unfolding pack
     number-back = omega arith
 
-    pub high-back : pack low refusal high / 2 ^ 32 ≡ high
+    pub high-back : highPart (pack low refusal high) ≡ high
     unfolding pack
     high-back = omega arith
 
-pub answer-refusal : (a : Answer) → Below (2 ^ 16) (answerNumbers a) → packedAnswer a / 2 ^ 16 % 2 ^ 16 ≡ getD (answerNumbers a) 0 0
-answer-refusal (answer.Length n) b = number-back n 0 0 (b .1 .0) (lit< tt)
-answer-refusal (answer.Refused r) b = number-back (placeOf r) (numberOf r) 0 (b .1 .0) (b .0)
+refused-told : (r : Refusal) → Below (2 ^ 16) (answerNumbers (answer.Refused r))
+    → answerTold (packedRefusal r) ≡ numberOf r ∷ placeOf r ∷ []
+refused-told r b = rw (number-back (placeOf r) (numberOf r) 0 (b .1 .0) (b .0), low-back (placeOf r) (numberOf r) 0 (b .1 .0))
 
-pub line-refusal : (l : Line) → Below (2 ^ 16) (answerNumbers (answerOf l))
-    → packedLine l / 2 ^ 16 % 2 ^ 16 ≡ getD (answerNumbers (answerOf l)) 0 0
-line-refusal (line.Frame identifier n) b = number-back n 0 identifier (b .1 .0) (lit< tt)
-line-refusal (line.Refused r) b = number-back (placeOf r) (numberOf r) 0 (b .1 .0) (b .0)
+-- where an acceptance is read in another way
+either-told : (r : Refusal) (accepted : List ℕ) → Below (2 ^ 16) (answerNumbers (answer.Refused r))
+    → cond (eqb (refusalPart (packedRefusal r)) 0) accepted (answerTold (packedRefusal r)) ≡ numberOf r ∷ placeOf r ∷ []
+either-told r accepted b =
+    let some = ne-eqb (refusalPart (packedRefusal r)) 0 (λ e. number-some r (sym e ∙ number-back (placeOf r) (numberOf r) 0 (b .1 .0) (b .0))) in
+    ap (λ (t : Bool). cond t accepted (answerTold (packedRefusal r))) some ∙ refused-told r b
+
+pub answer-told : (a : Answer) → Below (2 ^ 16) (answerNumbers a) → answerTold (packedAnswer a) ≡ answerNumbers a
+answer-told (answer.Length n) b = rw (number-back n 0 0 (b .1 .0) (lit< tt), low-back n 0 0 (b .1 .0))
+answer-told (answer.Refused r) b = refused-told r b
+
+pub bounds-told : (a : Bounds) → Below (2 ^ 16) (boundsNumbers a) → boundsTold (packedBounds a) ≡ boundsNumbers a
+bounds-told (bounds.Between l m) b =
+    rw (number-back l 0 m (b .1 .0) (lit< tt), low-back l 0 m (b .1 .0), high-back l 0 m (b .1 .0) (lit< tt))
+bounds-told (bounds.Refused r) b = either-told r _ b
+
+pub line-told : (l : Line) → Below (2 ^ 16) (answerNumbers (answerOf l)) → lineTold (packedLine l) ≡ lineNumbers l
+line-told (line.Frame i n) b =
+    rw (number-back n 0 i (b .1 .0) (lit< tt), low-back n 0 i (b .1 .0), high-back n 0 i (b .1 .0) (lit< tt))
+line-told (line.Refused r) b = either-told r _ b
 
 pack-only : (l r h l′ r′ h′ : ℕ) → l < 2 ^ 16 → r < 2 ^ 16 → l′ < 2 ^ 16 → r′ < 2 ^ 16 → pack l r h ≡ pack l′ r′ h′
     → (l ≡ l′) × (r ≡ r′) × (h ≡ h′)
 pack-only l r h l′ r′ h′ a b a′ b′ e = (
-  sym (low-back l r h a) ∙ ap (λ (n : ℕ). n % 2 ^ 16) e ∙ low-back l′ r′ h′ a′,
-  sym (number-back l r h a b) ∙ ap (λ (n : ℕ). n / 2 ^ 16 % 2 ^ 16) e ∙ number-back l′ r′ h′ a′ b′,
-  sym (high-back l r h a b) ∙ ap (λ (n : ℕ). n / 2 ^ 32) e ∙ high-back l′ r′ h′ a′ b′,
+  sym (low-back l r h a) ∙ ap lowPart e ∙ low-back l′ r′ h′ a′,
+  sym (number-back l r h a b) ∙ ap refusalPart e ∙ number-back l′ r′ h′ a′ b′,
+  sym (high-back l r h a b) ∙ ap highPart e ∙ high-back l′ r′ h′ a′ b′,
 )
 
 -- a refusal is not taken for a length, nor for another refusal

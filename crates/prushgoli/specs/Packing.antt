@@ -1,5 +1,8 @@
--- One number for each answer, as C takes it. Assumes nothing.
-use Prim.Native.Nat.{ℕ, _+_, _*_, _^_}
+-- One number for each answer, as C takes it, and what C reads out of it. Assumes nothing.
+use Prim.Native.Nat.{ℕ, _+_, _*_, _/_, _%_, _^_}
+use mathlib.Core.Bool.{cond}
+use mathlib.Core.List.{List, [], _∷_}
+use lib.Dec.{eqb}
 use Rattle.refusals.specs.declared.Answer.{Answer}
 use Rattle.refusals.specs.declared.Answer.the-variants as answer
 use Rattle.refusals.specs.declared.Refusal.{Refusal}
@@ -30,3 +33,23 @@ packedBounds (bounds.Refused refusal) = packedRefusal refusal
 abbrev pub packedLine : Line → ℕ
 packedLine (line.Frame identifier n) = pack n 0 identifier
 packedLine (line.Refused refusal) = packedRefusal refusal
+
+-- the three parts of such a number
+abbrev pub lowPart : ℕ → ℕ
+lowPart packed = packed % 2 ^ 16
+
+abbrev pub refusalPart : ℕ → ℕ
+refusalPart packed = packed / 2 ^ 16 % 2 ^ 16
+
+abbrev pub highPart : ℕ → ℕ
+highPart packed = packed / 2 ^ 32
+
+-- the document's numbers of an answer, of bounds and of a line, read out of it; a refusal is read alike in all three
+abbrev pub answerTold : ℕ → List ℕ
+answerTold packed = refusalPart packed ∷ lowPart packed ∷ []
+
+abbrev pub boundsTold : ℕ → List ℕ
+boundsTold packed = cond (eqb (refusalPart packed) 0) (0 ∷ lowPart packed ∷ highPart packed ∷ []) (answerTold packed)
+
+abbrev pub lineTold : ℕ → List ℕ
+lineTold packed = cond (eqb (refusalPart packed) 0) (0 ∷ highPart packed ∷ lowPart packed ∷ []) (answerTold packed)
