@@ -1,17 +1,20 @@
 -- Demand 1: every public call ends with an answer for every input of every length, and after a refusal every lent buffer holds its old
--- bytes. Of each public entry, C's and Rattle's: its contract asks nothing of the inputs, allows one answer and one content of the lent
--- buffer, and with a refusal the old one. `Asked` and `Learnt` are the toolchain's readings of the entry's own clauses: what they ask of
--- a caller and what they tell it. Inputs, and memory behind the call, are in the order of the parameters: .0 the first, .1 .0 the second.
--- What each call checks is in Refusals. Assumes nothing.
---     c-encode-settled and five more    the calls for C
+-- bytes. Of each public entry, C's and Rattle's: its contract asks nothing of the inputs, allows no two answers and no two contents of
+-- the lent buffer, and with a refusal only the old one. `Asked` and `Learnt` are the toolchain's readings of the entry's own clauses: what
+-- they ask of a caller and what they tell it. Inputs i, and the parameters s after the call, are in the order of the signature: .0 the
+-- first, .1 .0 the second. That each entry ends, and meets its contract, is in Meets; what it checks is in Refusals. Assumes nothing.
+--     c-encode-settled and five more      the calls for C
 --     encode-settled and nineteen more    the calls in Rattle
 use mathlib.Core.Path.{_≡_, refl, ap, subst, _∙_}
 use mathlib.Core.List.{List}
-use Prim.Native.Nat.{ℕ, _<_}
+use Prim.Native.Nat.{ℕ, _<_, _^_}
 use native.Mathlib.Omega.{arith}
 use contract.Lifetimes.{Lfts}
 use denote.Ref.{now}
-use lib.ListN.{length}
+use lib.Dec.{lit<}
+use lib.ListN.{length, getD}
+use Rattle.bits.specs.Below.{Below}
+use Rattle.refusals.specs.Table.{answerNumbers}
 use Rattle.refusals.specs.declared.Answer.{Answer}
 use Rattle.refusals.specs.declared.Answer.the-variants.{Length, Refused}
 use Rattle.refusals.specs.After.{after}
@@ -21,10 +24,13 @@ use Rattle.field.specs.Decode.{decodeAnswer, payloadOf}
 use Rattle.frame.specs.Answers.{payloadLine, makeAnswer}
 use Rattle.line.specs.Read.{readAnswer, payloadIn}
 use Rattle.line.specs.Read as line
+use Rattle.line.specs.declared.Line.{Line}
+use Rattle.line.specs.declared.Line.the-variants as read
 use Rattle.report.specs.Report as report
-use Rattle.prushgoli.proofs.Packed.{answer-refusal, line-refusal}
+use Rattle.prushgoli.specs.Packing.{packedAnswer, packedLine, refusalPart}
+use Rattle.prushgoli.proofs.Packed.{number-back, answer-told}
 use Rattle.prushgoli.proofs.Fits.{encode-fits, decode-fits, make-fits, read-fits}
-use Rattle.demands.specs.Settled.{refusalNumber, refusalPacked, Settled, SettledWith}
+use Rattle.demands.specs.Settled.{refusalNumber, Settled, SettledWith}
 use Rattle.demands.proofs.Settled.{settled, settled-with}
 use Rattle.prushgoli.proofs.prushgoli_encode.Reads as c-encode
 use Rattle.prushgoli.proofs.prushgoli_decode.Reads as c-decode
@@ -58,28 +64,36 @@ refused-old : (a : Answer) (result old : List ℕ) → 0 < refusalNumber a → a
 refused-old (Length n) result old refused = absurd (omega (arith, refused))
 refused-old (Refused refusal) result old refused = refl
 
-packed-old : (a : Answer) {n m : ℕ} (result old : List ℕ) → refusalPacked m ≡ refusalNumber a → n ≡ m → 0 < refusalPacked n
-    → after a result old ≡ old
-packed-old a result old told is refused = refused-old a result old (subst (λ (k : ℕ). 0 < k) (ap refusalPacked is ∙ told) refused)
+answer-refusal : (a : Answer) → Below (2 ^ 16) (answerNumbers a) → refusalPart (packedAnswer a) ≡ refusalNumber a
+answer-refusal a fits = ap (λ (l : List ℕ). getD l 0 0) (answer-told a fits)
 
--- ---- the calls for C: an answer is one number, in which the refusal has bits 16 to 31
+-- a line's refusal is packed as any other
+line-refusal : (l : Line) → Below (2 ^ 16) (answerNumbers (line.answerOf l)) → refusalPart (packedLine l) ≡ refusalNumber (line.answerOf l)
+line-refusal (read.Frame identifier n) fits = number-back n 0 identifier (fits .1 .0) (lit< tt)
+line-refusal (read.Refused r) fits = answer-refusal (Refused r) fits
+
+packed-old : (a : Answer) {n m : ℕ} (result old : List ℕ) → refusalPart m ≡ refusalNumber a → n ≡ m → 0 < refusalPart n
+    → after a result old ≡ old
+packed-old a result old told is refused = refused-old a result old (subst (λ (k : ℕ). 0 < k) (ap refusalPart is ∙ told) refused)
+
+-- ---- the calls for C: an answer is one number, of which the refusal is a part
 
 pub c-encode-settled : (κs : Lfts 2)
-    → SettledWith (c-encode.Asked κs) (c-encode.Learnt κs) refusalPacked (λ i. now (i .1 .0)) (λ s. now (s .1 .0))
+    → SettledWith (c-encode.Asked κs) (c-encode.Learnt κs) refusalPart (λ i. now (i .1 .0)) (λ s. now (s .1 .0))
 c-encode-settled κs =
     settled-with (λ i. tt) (λ i a s says. says) (λ i a is refused.
     let answer = encodeAnswer (now (i .0)) (length (now (i .1 .0))) in
     packed-old answer (fieldOf (now (i .0))) (now (i .1 .0)) (answer-refusal answer (encode-fits _ _ answer refl)) is refused)
 
 pub c-decode-settled : (κs : Lfts 2)
-    → SettledWith (c-decode.Asked κs) (c-decode.Learnt κs) refusalPacked (λ i. now (i .1 .0)) (λ s. now (s .1 .0))
+    → SettledWith (c-decode.Asked κs) (c-decode.Learnt κs) refusalPart (λ i. now (i .1 .0)) (λ s. now (s .1 .0))
 c-decode-settled κs =
     settled-with (λ i. tt) (λ i a s says. says) (λ i a is refused.
     let answer = decodeAnswer (now (i .0)) (length (now (i .1 .0))) in
     packed-old answer (payloadOf (now (i .0))) (now (i .1 .0)) (answer-refusal answer (decode-fits (now (i .0)) (length (now (i .1 .0))) answer refl)) is refused)
 
 pub c-make-frame-settled : (κs : Lfts 2)
-    → SettledWith (c-make-frame.Asked κs) (c-make-frame.Learnt κs) refusalPacked (λ i. now (i .1 .1 .0)) (λ s. now (s .1 .1 .0))
+    → SettledWith (c-make-frame.Asked κs) (c-make-frame.Learnt κs) refusalPart (λ i. now (i .1 .1 .0)) (λ s. now (s .1 .1 .0))
 c-make-frame-settled κs =
     settled-with (λ i. tt) (λ i a s says. says) (λ i a is refused.
     let answer = makeAnswer (i .0) (now (i .1 .0)) (length (now (i .1 .1 .0))) in
@@ -92,7 +106,7 @@ pub c-frame-bounds-settled : (κs : Lfts 0) → Settled (c-frame-bounds.Asked κ
 c-frame-bounds-settled κs = settled (λ i. tt) (λ i a s says. says)
 
 pub c-read-line-settled : (κs : Lfts 2)
-    → SettledWith (c-read-line.Asked κs) (c-read-line.Learnt κs) refusalPacked (λ i. now (i .1 .0)) (λ s. now (s .1 .0))
+    → SettledWith (c-read-line.Asked κs) (c-read-line.Learnt κs) refusalPart (λ i. now (i .1 .0)) (λ s. now (s .1 .0))
 c-read-line-settled κs =
     settled-with (λ i. tt) (λ i a s says. says) (λ i a is refused.
     let answer = readAnswer (now (i .0)) (length (now (i .1 .0))) in

@@ -1,32 +1,36 @@
 -- Demand 3: for any identifier 0 to 2047 and payload, no stuff bit follows a data-field bit, at most four follow CRC bits; with n field
 -- bytes and h stuff bits after header bits the frame has 44 + 8n + h to 48 + 8n + h bits, h hanging on identifier and size alone. The
 -- length we report is the count of bits on that wire. Assumes nothing.
---     none-after-data      no stuff bit follows a bit of the data field
+--     bits-counted         the line has the bits of its parts and the stuff bits that follow header, data and CRC bits
+--     none-after-data      of these none follows a bit of the data field
 --     four-after-crc       at most four follow bits of the CRC
---     header-alone         those that follow header bits are h, of identifier and DLC alone
---     bits-between         the line has 44 + 8n + h to 48 + 8n + h bits
---     length-reported      the length reported is the number of bits of the line
---     line-made            which is the line that making leaves in a lent buffer
---     bounds-reported      the bounds reported are these two numbers
+--     header-alone         those that follow header bits are h, of identifier and size alone
+--     bits-between         so the line has 44 + 8n + h to 48 + 8n + h bits
+--     length-reported      the length reported is the number of bits of the line, which making leaves (`line-left`, Demand2)
+--     bounds-reported      the bounds reported of an identifier and a size are these two numbers
+--     bounds-hold          and the length reported lies between them
 use mathlib.Core.Path.{_≡_, sym, ap, _∙_}
 use mathlib.Core.List.{List}
 use Prim.Native.Nat.{ℕ, _+_, _*_, _≤_}
-use lib.ListN.{length, take}
+use native.Mathlib.Omega.{arith}
+use lib.ListN.{length}
 use Rattle.bits.specs.Below.{Below}
 use Rattle.bits.specs.Packing.{unpacked}
-use Rattle.refusals.specs.After.{after}
+use Rattle.bits.proofs.Packing.{unpacked-length}
 use Rattle.refusals.specs.declared.Answer.the-variants.{Length}
 use Rattle.field.specs.Sizes.{fieldBytes}
 use Rattle.field.specs.Field.{fieldOf}
 use Rattle.field.proofs.FieldBits.{field-length}
 use Rattle.frame.specs.Header.{header}
+use Rattle.frame.specs.Line.{lineOf, frameLine}
 use Rattle.frame.specs.StuffBits.{afterHeader, afterData, afterCrc, headerStuffBits}
-use Rattle.frame.specs.Answers.{payloadLine, makeAnswer, lengthAnswer, boundsAnswer}
+use Rattle.frame.specs.Answers.{payloadLine, lengthAnswer, boundsAnswer}
 use Rattle.frame.specs.declared.Bounds.the-variants.{Between}
+use Rattle.frame.proofs.HeaderBits.{header-length}
 use Rattle.frame.proofs.Demand3 as frame
-use Rattle.frame.proofs.FrameAnswers.{make-accepts, length-accepts}
+use Rattle.frame.proofs.FrameAnswers.{length-accepts}
 use Rattle.frame.proofs.BoundsAnswers.{bounds-accepts}
-use Rattle.frame.proofs.Reported.{line-is-made}
+use Rattle.frame.proofs.Reported as reported
 
 module _ (identifier : ℕ) (payload : List ℕ) (bytes : Below 256 payload) (short : length payload ≤ 7) where
   -- how many bytes the field has, and the bits of header and data field
@@ -38,6 +42,16 @@ module _ (identifier : ℕ) (payload : List ℕ) (bytes : Below 256 payload) (sh
 
   abbrev dataBits : List ℕ
   dataBits = unpacked 8 (fieldOf payload)
+
+  pub bits-counted :
+      length (payloadLine identifier payload)
+      ≡ 44 + 8 * n + (afterHeader headerBits dataBits + (afterData headerBits dataBits + afterCrc headerBits dataBits))
+  unfolding frameLine
+  bits-counted =
+      let counted = frame.line-counts headerBits dataBits in
+      let long = unpacked-length 8 (fieldOf payload) in
+      ap (λ (k : ℕ). length (lineOf (header identifier k) dataBits)) (field-length payload)
+      ∙ omega (arith, counted, long, field-length payload, header-length identifier n)
 
   pub none-after-data : afterData headerBits dataBits ≡ 0
   none-after-data =
@@ -54,19 +68,16 @@ module _ (identifier : ℕ) (payload : List ℕ) (bytes : Below 256 payload) (sh
       (44 + 8 * n + h ≤ length (payloadLine identifier payload)) × (length (payloadLine identifier payload) ≤ 48 + 8 * n + h)
   bits-between = frame.frame-between identifier payload bytes short
 
-  module _ (known : identifier ≤ 2047) where
-    pub length-reported : lengthAnswer identifier payload ≡ Length (length (payloadLine identifier payload))
-    length-reported = length-accepts identifier payload known short
+  pub length-reported : identifier ≤ 2047 → lengthAnswer identifier payload ≡ Length (length (payloadLine identifier payload))
+  length-reported known = length-accepts identifier payload known short
 
-    pub line-made : (buffer : List ℕ) → 116 ≤ length buffer →
-        let line = payloadLine identifier payload in
-        (makeAnswer identifier payload (length buffer) ≡ Length (length line))
-        × (take (length line) (after (makeAnswer identifier payload (length buffer)) line buffer) ≡ line)
-    line-made buffer room =
-        let made = make-accepts identifier payload (length buffer) known short room in
-        (made, line-is-made identifier payload buffer (length (payloadLine identifier payload)) made .1)
+pub bounds-reported : (identifier size : ℕ) → identifier ≤ 2047 → size ≤ 7 →
+    let n = fieldBytes size in
+    let h = headerStuffBits identifier n in
+    boundsAnswer identifier size ≡ Between (44 + 8 * n + h) (48 + 8 * n + h)
+bounds-reported = bounds-accepts
 
-    pub bounds-reported :
-        let h = headerStuffBits identifier n in
-        boundsAnswer identifier (length payload) ≡ Between (44 + 8 * n + h) (48 + 8 * n + h)
-    bounds-reported = bounds-accepts identifier (length payload) known short
+pub bounds-hold : (identifier : ℕ) (payload : List ℕ) (least most k : ℕ) → Below 256 payload
+    → boundsAnswer identifier (length payload) ≡ Between least most → lengthAnswer identifier payload ≡ Length k
+    → (least ≤ k) × (k ≤ most)
+bounds-hold = reported.bounds-hold

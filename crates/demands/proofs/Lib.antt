@@ -1,7 +1,10 @@
 pub mod Settled
-pub mod Refusals
+pub mod Meets
 pub mod Demand1
+pub mod ForC
+pub mod Refusals
 pub mod Demand2
 pub mod Demand3
-pub mod Examples
+pub mod RoundTrips
 pub mod WrongPrograms
+pub mod Examples

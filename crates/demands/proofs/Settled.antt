@@ -1,6 +1,6 @@
 -- The general law: a contract that gives the answer, and what a lent buffer then holds, as functions of the inputs allows one
 -- outcome. Assumes nothing.
---     settled         of a call that is lent no buffer
+--     settled         of a call that is lent no buffer to write
 --     settled-with    of one that is
 use mathlib.Core.Path.{_≡_, sym, ap, _∙_}
 use mathlib.Core.List.{List}
@@ -15,12 +15,12 @@ module _ {Inputs Answers Exit : Type 0} {allows : Inputs → Answers → Exit �
   pub settled : {asks : Inputs → Type 0} → ((i : Inputs) → asks i) → ((i : Inputs) (a : Answers) (s : Exit) → allows i a s → a ≡ answer i) → Settled asks allows
   settled every says = record { every-input = every; one-answer = same-answer says }
 
-  pub settled-with : {asks : Inputs → Type 0} {refusal : Answers → ℕ} {before : Inputs → List ℕ} {after : Exit → List ℕ} {left : Inputs → Answers → List ℕ}
+  pub settled-with : {asks : Inputs → Type 0} {refusal : Answers → ℕ} {held : Inputs → List ℕ} {holds : Exit → List ℕ} {left : Inputs → Answers → List ℕ}
       → ((i : Inputs) → asks i)
-      → ((i : Inputs) (a : Answers) (s : Exit) → allows i a s → (a ≡ answer i) × (after s ≡ left i a))
-      → ((i : Inputs) (a : Answers) → a ≡ answer i → 0 < refusal a → left i a ≡ before i)
-      → SettledWith asks allows refusal before after
-  settled-with {asks} {refusal} {before} {after} {left} every says keeps =
+      → ((i : Inputs) (a : Answers) (s : Exit) → allows i a s → (a ≡ answer i) × (holds s ≡ left i a))
+      → ((i : Inputs) (a : Answers) → a ≡ answer i → 0 < refusal a → left i a ≡ held i)
+      → SettledWith asks allows refusal held holds
+  settled-with {asks} {refusal} {held} {holds} {left} every says keeps =
       record {
         every-input = every;
         one-answer = same;
