@@ -16,7 +16,7 @@ struct range {
 
 static struct {
     unsigned long frames, reported, within, back;
-    unsigned long plain[LENGTHS], coded[LENGTHS][LENGTHS]; /* coded: by the least bound, then by the length */
+    unsigned long plain[LENGTHS + 1], coded[LENGTHS][LENGTHS + 1]; /* coded: by the least bound, then by the length */
 } met;
 
 static struct range plain_of[IDENTIFIERS], coded_of[IDENTIFIERS];
@@ -84,11 +84,11 @@ static void send(uint32_t identifier, const uint8_t *payload, size_t size)
 static void print_met(const char *payloads, size_t size)
 {
     printf("frames %s %zu %lu %lu %lu %lu\n", payloads, size, met.frames, met.reported, met.within, met.back);
-    for (unsigned length = 0; length < LENGTHS; length++)
+    for (unsigned length = 0; length <= LENGTHS; length++)
         if (met.plain[length] > 0)
             printf("plain %s %zu %u %lu\n", payloads, size, length, met.plain[length]);
     for (unsigned least = 0; least < LENGTHS; least++)
-        for (unsigned length = 0; length < LENGTHS; length++)
+        for (unsigned length = 0; length <= LENGTHS; length++)
             if (met.coded[least][length] > 0)
                 printf("coded %s %zu %u %u %lu\n", payloads, size, least, length, met.coded[least][length]);
 }

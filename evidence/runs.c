@@ -49,7 +49,12 @@ static void print_bounds(size_t size)
         uint64_t answer = prushgoli_frame_bounds(identifier, size);
         if (prushgoli_refusal(answer) != PRUSHGOLI_ACCEPTED)
             fail("prushgoli_frame_bounds", answer);
-        identifiers[prushgoli_least(answer)][prushgoli_most(answer)]++;
+        unsigned least = prushgoli_least(answer), most = prushgoli_most(answer);
+        if (least >= LENGTHS || most >= LENGTHS) {
+            fprintf(stderr, "evidence/runs: identifier %u, size %zu: bounds %u and %u\n", identifier, size, least, most);
+            exit(EXIT_FAILURE);
+        }
+        identifiers[least][most]++;
     }
     for (unsigned least = 0; least < LENGTHS; least++)
         for (unsigned most = 0; most < LENGTHS; most++)
