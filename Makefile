@@ -13,7 +13,7 @@ help:
 	@echo 'make install [PREFIX=/usr/local] [DESTDIR=]   install these three'
 	@echo 'make test   run every test and prove every crate from nothing; the last line is: N passed, 0 failed'
 	@echo 'make evidence   a page of runs for the inspector, build/evidence/index.html; runs the gate where its record is old'
-	@echo 'make can-fail   show that the comparisons notice wrong programs'
+	@echo 'make can-fail   show that the tests notice faults'
 	@echo 'make clean  remove build/; what rt has proved stays'
 
 rt = command -v rt >/dev/null || { echo 'make $@: the Rattle toolchain is missing (no command rt)' >&2; exit 1; }
@@ -61,6 +61,7 @@ build/gate/end: $(filter-out %.trace,$(shell evidence/tested folders))
 can-fail: lib target/bin/trace
 	tests/compare/can-fail
 	tests/trace/can-fail
+	tests/can-fail
 	@if [ -f build/evidence/index.html ]; then tests/evidence/can-fail; \
 	else echo 'make can-fail: no fault of the page was tried: there is none, make evidence makes it' >&2; fi
 
