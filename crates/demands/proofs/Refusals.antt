@@ -9,7 +9,8 @@
 --     word-none        nine bits that are no word: 6, place the number of the word
 --     padding-wrong    other than the table's: 7
 --     line-problem     3 and 9 to 13 are the verdict on the bit at that place, from the bits to its left; or 11, where the line ends there
---     line-first       nothing to the left of that place is wrong: cut before it, the line is only too short
+--     line-before      the verdict on each bit to the left of that place is right
+--     line-first       cut before it, the line is only too short
 --     line-stays       nothing to the right of it is looked at; at the line's end, where 11 stands too, there is no bit to keep
 --     line-cut, line-longer    an accepted line, cut or with bits added: 11, place its length or the first bit too many
 --     line-decoded     the line of a frame is answered as decoding its data field: 2, and 4 to 7
@@ -42,10 +43,10 @@ use Rattle.frame.specs.Answers.{makeAnswer, lengthAnswer, boundsAnswer, boundsN
 use Rattle.frame.proofs.FrameAnswers.{make-identifier, make-long, make-short, length-identifier, length-long}
 use Rattle.frame.proofs.BoundsAnswers.{bounds-identifier, bounds-long}
 use Rattle.line.specs.Ack.{withAck}
-use Rattle.line.specs.Scan.{wrong, verdict, complete, runBehind, frameBehind}
+use Rattle.line.specs.Scan.{right, wrong, verdict, complete, runBehind, frameBehind}
 use Rattle.line.specs.Read.{withIdentifier, readAnswer}
 use Rattle.line.specs.declared.Line.the-variants.{Frame, Refused}
-use Rattle.line.proofs.ProblemMet.{problem-met}
+use Rattle.line.proofs.ProblemMet.{problem-met, right-before}
 use Rattle.line.proofs.ReadRefusals.{bits-refused, first-problem, first-of-all, field-refused, cut-line, longer-line}
 use Rattle.line.proofs.RoundTrip.{read-frame}
 use Rattle.records.specs.Records.{recordAt}
@@ -124,6 +125,12 @@ module _ (line : List ℕ) (room : ℕ) (refusal : Refusal) (refused : readAnswe
         ⊎ ((refusal ≡ LineLength (length line)) × (complete (frameBehind nothingSent [] line) ≡ false))
     line-problem = problem-met line refusal (bits-refused line room refusal refused bits)
 
+    pub line-before : (k : ℕ) → k < placeOf refusal →
+        let run = runBehind nothingSent (take k line) in
+        let frame = frameBehind nothingSent [] (take k line) in
+        verdict run frame k (getD line k 0) ≡ right
+    line-before = right-before line refusal (bits-refused line room refusal refused bits)
+
     pub line-first : (k room′ : ℕ) → k < placeOf refusal → readAnswer (take k line) room′ ≡ Refused (LineLength k)
     line-first k room′ = first-of-all line room refusal refused k room′ bits
 
@@ -132,7 +139,7 @@ module _ (line : List ℕ) (room : ℕ) (refusal : Refusal) (refused : readAnswe
     line-stays line′ room′ = first-problem line room refusal refused line′ room′ bits
 
   pub line-field : ((numberOf refusal ≡ 3) ⊎ ((8 < numberOf refusal) × (numberOf refusal < 14)) → ⊥)
-      → (identifier : ℕ) × (field : List ℕ) × (withAck 1 line ≡ frameLine identifier field)
+      → (identifier : ℕ) × (field : List ℕ) × (withAck 1 line ≡ frameLine identifier field) × Below 2 line
       × (decodeAnswer field room ≡ answer.Refused refusal)
   line-field = field-refused line room refusal refused
 

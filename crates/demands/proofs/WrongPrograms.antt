@@ -37,14 +37,14 @@ module _ (κs : Lfts 2) (i : _) (a : ℕ) (s : _) (allowed : encode.Learnt κs i
   pub payload-carried : Below 256 (now (i .0)) → payloadOf (take (lowPart a) (now (s .1 .0))) ≡ now (i .0)
   payload-carried bytes = ap payloadOf (field-stands κs i a s allowed short room) ∙ payload-of-field (now (i .0)) bytes short
 
-pub another-field : (κs : Lfts 2) (i j : _) (a b : ℕ) (s t : _) → encode.Learnt κs i a s → encode.Learnt κs j b t →
+pub another-field : (κs κs′ : Lfts 2) (i j : _) (a b : ℕ) (s t : _) → encode.Learnt κs i a s → encode.Learnt κs′ j b t →
     let p = now (i .0) in
     let q = now (j .0) in
     Below 256 p → Below 256 q → length p ≤ 7 → length q ≤ 7
     → fieldBytes (length p) ≤ length (now (i .1 .0)) → fieldBytes (length q) ≤ length (now (j .1 .0))
     → take (lowPart a) (now (s .1 .0)) ≡ take (lowPart b) (now (t .1 .0)) → p ≡ q
-another-field κs i j a b s t allowed allowed′ bytes bytes′ short short′ fits fits′ same =
-    sym (payload-carried κs i a s allowed short fits bytes) ∙ ap payloadOf same ∙ payload-carried κs j b t allowed′ short′ fits′ bytes′
+another-field κs κs′ i j a b s t allowed allowed′ bytes bytes′ short short′ fits fits′ same =
+    sym (payload-carried κs i a s allowed short fits bytes) ∙ ap payloadOf same ∙ payload-carried κs′ j b t allowed′ short′ fits′ bytes′
 
 pub length-counted : (κs : Lfts 1) (i : _) (a : ℕ) (s : _) → frame-length.Learnt κs i a s → i .0 ≤ 2047 → length (now (i .1 .0)) ≤ 7
     → (refusalPart a ≡ 0) × (lowPart a ≡ length (payloadLine (i .0) (now (i .1 .0))))

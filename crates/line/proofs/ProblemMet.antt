@@ -1,6 +1,7 @@
 -- What the first problem is: the verdict on the bit at its place, from what is known there; or the line ends before the frame does.
 -- Assumes nothing.
---     problem-met    of a line that is refused for its bits
+--     problem-met     of a line that is refused for its bits
+--     right-before    the verdict on each bit to the left of that place is right
 use mathlib.Core.Path.{_≡_, refl, sym, ap, _∙_}
 use mathlib.Core.Bool.{Bool, true, false, cond}
 use mathlib.Core.List.{List, [], _∷_}
@@ -71,3 +72,47 @@ problem-met line refusal e =
     let at : 0 + placeOf refusal ≡ placeOf refusal = omega arith in
     let end : 0 + length line ≡ length line = omega arith in
     rw (at, end) at (problem nothingSent [] 0 line refusal (placeOf refusal) e (omega arith))
+
+-- ---- and the verdict on each bit to its left is right
+
+abbrev RightAt : Run → List ℕ → ℕ → List ℕ → ℕ → Type 0
+RightAt run frame place line j =
+    verdict (runBehind run (take j line)) (frameBehind run frame (take j line)) (place + j) (getD line j 0) ≡ right
+
+right-next : (run : Run) (frame : List ℕ) (place bit : ℕ) (line : List ℕ) (j : ℕ)
+    → RightAt (runWith run bit) (frameWith run frame bit) (place + 1) line j → RightAt run frame place (bit ∷ line) (suc j)
+unfolding runBehind frameBehind
+right-next run frame place bit line j met = let count : place + 1 + j ≡ place + suc j = omega arith in rw count at met
+
+rights : (run : Run) (frame : List ℕ) (place : ℕ) (line : List ℕ) (refusal : Refusal) (j : ℕ) → scan run frame place line ≡ stopped refusal
+    → place + j < placeOf refusal → RightAt run frame place line j
+unfolding scan runBehind frameBehind
+rights run frame place [] refusal j e h = ending (complete frame) e
+  where
+    ending : (t : Bool) → cond t (whole frame) (stopped (LineLength place)) ≡ stopped refusal → RightAt run frame place [] j
+    ending true q = never q
+    ending false q = absurd (omega (arith, h, ap placeOf (stopped-only q)))
+rights run frame place (bit ∷ line) refusal j e h =
+    go (verdict run frame place bit) refl (verdict-at run frame place bit) e j h
+    (λ i. rights (runWith run bit) (frameWith run frame bit) (place + 1) line refusal i)
+  where
+    next : Scanned
+    next = scan (runWith run bit) (frameWith run frame bit) (place + 1) line
+
+    go : (v : Verdict) → verdict run frame place bit ≡ v → At place v → onward v next ≡ stopped refusal
+        → (j : ℕ) → place + j < placeOf refusal
+        → ((i : ℕ) → next ≡ stopped refusal → place + 1 + i < placeOf refusal → RightAt (runWith run bit) (frameWith run frame bit) (place + 1) line i)
+        → RightAt run frame place (bit ∷ line) j
+    go right d a q zero h later =
+        let here : place ≡ place + 0 = omega arith in
+        ap (λ (n : ℕ). verdict run frame n bit) (sym here) ∙ d
+    go right d a q (suc i) h later = right-next run frame place bit line i (later i q (omega (arith, h)))
+    go (wrong r) d a q j h later = absurd (omega (arith, h, a .0, ap placeOf (stopped-only q)))
+
+pub right-before : (line : List ℕ) (refusal : Refusal) → scanned line ≡ stopped refusal → (k : ℕ) → k < placeOf refusal →
+    let before = take k line in
+    verdict (runBehind nothingSent before) (frameBehind nothingSent [] before) k (getD line k 0) ≡ right
+unfolding scanned
+right-before line refusal e k h =
+    let at : 0 + k ≡ k = omega arith in
+    rw at at (rights nothingSent [] 0 line refusal k e (omega arith))

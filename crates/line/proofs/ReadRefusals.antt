@@ -11,6 +11,7 @@ use mathlib.Core.Logic.{_⊎_, inl, inr}
 use Prim.Native.Nat.{ℕ, _+_, _<_}
 use native.Mathlib.Omega.{arith}
 use lib.ListN.{length, take}
+use Rattle.bits.specs.Below.{Below}
 use Rattle.refusals.specs.declared.Answer.{Answer}
 use Rattle.refusals.specs.declared.Answer.the-variants as answer
 use Rattle.refusals.specs.declared.Refusal.{Refusal}
@@ -65,15 +66,16 @@ module _ (line : List ℕ) (room : ℕ) (refusal : Refusal) (e : readAnswer line
           absurd (decoding frame d q .0 own)
 
   pub field-refused : (OfBits refusal → ⊥)
-      → (identifier : ℕ) × (field : List ℕ) × (withAck 1 line ≡ frameLine identifier field) × (decodeAnswer field room ≡ answer.Refused refusal)
+      → (identifier : ℕ) × (field : List ℕ) × (withAck 1 line ≡ frameLine identifier field) × Below 2 line
+      × (decodeAnswer field room ≡ answer.Refused refusal)
   unfolding readAnswer
   field-refused other = go (scanned line) refl e
     where
       go : (s : Scanned) → scanned line ≡ s → decoded s room ≡ Refused refusal
-          → (identifier : ℕ) × (field : List ℕ) × (withAck 1 line ≡ frameLine identifier field)
+          → (identifier : ℕ) × (field : List ℕ) × (withAck 1 line ≡ frameLine identifier field) × Below 2 line
           × (decodeAnswer field room ≡ answer.Refused refusal)
       go (stopped r) d q = let same : r ≡ refusal = cc in absurd (other (subst OfBits same (stopped-at line r d .own)))
-      go (whole frame) d q = (identifierIn frame, fieldIn frame, line-scanned line frame d .1, decoding frame d q .1)
+      go (whole frame) d q = (identifierIn frame, fieldIn frame, line-scanned line frame d .1, line-scanned line frame d .2, decoding frame d q .1)
 
   -- and nothing to the left of that bit is wrong
   pub first-of-all : (k room′ : ℕ) → OfBits refusal → k < placeOf refusal → readAnswer (take k line) room′ ≡ Refused (LineLength k)
