@@ -90,7 +90,8 @@ pub c-decode-settled : (κs : Lfts 2)
 c-decode-settled κs =
     settled-with (λ i. tt) (λ i a s says. says) (λ i a is refused.
     let answer = decodeAnswer (now (i .0)) (length (now (i .1 .0))) in
-    packed-old answer (payloadOf (now (i .0))) (now (i .1 .0)) (answer-refusal answer (decode-fits (now (i .0)) (length (now (i .1 .0))) answer refl)) is refused)
+    let told = answer-refusal answer (decode-fits (now (i .0)) (length (now (i .1 .0))) answer refl) in
+    packed-old answer (payloadOf (now (i .0))) (now (i .1 .0)) told is refused)
 
 pub c-make-frame-settled : (κs : Lfts 2)
     → SettledWith (c-make-frame.Asked κs) (c-make-frame.Learnt κs) refusalPart (λ i. now (i .1 .1 .0)) (λ s. now (s .1 .1 .0))

@@ -118,7 +118,8 @@ module _ (payload buffer buffer′ : List ℕ) (bytes : Below 256 payload) (shor
       × (after (decodeAnswer field (length buffer′)) (payloadOf field) buffer′ ≡ payload ++ drop (length payload) buffer′)
   field-back room =
       let n = fieldBytes (length payload) in
-      let left = ap (take n) (field-left payload buffer short room .1) ∙ take-at (fieldOf payload) (drop n buffer) n (field-length payload) in
+      let left = ap (take n) (field-left payload buffer short room .1)
+      ∙ take-at (fieldOf payload) (drop n buffer) n (field-length payload) in
       let decoded = ap (λ (f : List ℕ). decodeAnswer f (length buffer′)) left ∙ decode-encode payload (length buffer′) bytes short fits in
       let carried = ap payloadOf left ∙ payload-of-field payload bytes short in
       (left, decoded, ap₂ (λ (a : Answer) (p : List ℕ). after a p buffer′) decoded carried)
@@ -132,11 +133,13 @@ module _ (payload buffer buffer′ : List ℕ) (bytes : Below 256 payload) (shor
       × (after (answerOf (readAnswer line (length buffer′))) (payloadIn line) buffer′ ≡ payload ++ drop (length payload) buffer′)
   frame-back identifier ack known slot room =
       let whole = payloadLine identifier payload in
-      let left = ap (take (length whole)) (line-left identifier payload buffer known short room .1) ∙ take-at whole (drop (length whole) buffer) (length whole) refl in
+      let n = length whole in
+      let left = ap (take n) (line-left identifier payload buffer known short room .1) ∙ take-at whole (drop n buffer) n refl in
       let own = read-made identifier payload ack (length buffer′) known bytes short fits slot in
       let read = ap (λ (l : List ℕ). readAnswer (withAck ack l) (length buffer′)) left ∙ own .0 in
       let carried = ap (λ (l : List ℕ). payloadIn (withAck ack l)) left ∙ own .1 in
-      (ap (withAck 1) left ∙ own-ack identifier payload ∙ sym left, read, ap₂ (λ (a : Line) (p : List ℕ). after (answerOf a) p buffer′) read carried)
+      let same = ap (withAck 1) left ∙ own-ack identifier payload ∙ sym left in
+      (same, read, ap₂ (λ (a : Line) (p : List ℕ). after (answerOf a) p buffer′) read carried)
 
 -- ---- each field or frame accepted is the one that coding gives, the ACK slot apart
 

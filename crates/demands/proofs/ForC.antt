@@ -2,17 +2,21 @@
 -- refusal's number and its place, or 0 and the length, the bounds, or identifier and length. Each is about an outcome that the contract
 -- allows. Assumes nothing.
 --     encode-told, decode-told, make-frame-told, frame-length-told, frame-bounds-told, read-line-told
+--     length-told    of an answer that is a length C reads no refusal, and the length
 use mathlib.Core.Path.{_≡_, refl, ap, _∙_}
+use mathlib.Core.List.{List}
 use Prim.Native.Nat.{ℕ}
 use contract.Lifetimes.{Lfts}
 use denote.Ref.{now}
-use lib.ListN.{length}
+use lib.ListN.{length, getD}
 use Rattle.refusals.specs.Table.{answerNumbers}
+use Rattle.refusals.specs.declared.Answer.{Answer}
+use Rattle.refusals.specs.declared.Answer.the-variants.{Length}
 use Rattle.field.specs.Encode.{encodeAnswer}
 use Rattle.field.specs.Decode.{decodeAnswer}
 use Rattle.frame.specs.Answers.{makeAnswer, lengthAnswer, boundsAnswer, boundsNumbers}
 use Rattle.line.specs.Read.{readAnswer, lineNumbers}
-use Rattle.prushgoli.specs.Packing.{answerTold, boundsTold, lineTold}
+use Rattle.prushgoli.specs.Packing.{lowPart, refusalPart, answerTold, boundsTold, lineTold}
 use Rattle.prushgoli.proofs.Packed.{answer-told, bounds-told, line-told}
 use Rattle.prushgoli.proofs.Fits.{encode-fits, decode-fits, length-fits, make-fits, bounds-fit, read-fits}
 use Rattle.prushgoli.proofs.prushgoli_encode.Reads as encode
@@ -57,3 +61,8 @@ pub read-line-told : (κs : Lfts 2) (i : _) (a : ℕ) (s : _) → read-line.Lear
 read-line-told κs i a s allowed =
     let answer = readAnswer (now (i .0)) (length (now (i .1 .0))) in
     ap lineTold (allowed .0) ∙ line-told answer (read-fits _ _ answer refl)
+
+pub length-told : {x : Answer} {n : ℕ} (a : ℕ) → answerTold a ≡ answerNumbers x → x ≡ Length n → (refusalPart a ≡ 0) × (lowPart a ≡ n)
+length-told a told is =
+    let numbers = told ∙ ap answerNumbers is in
+    (ap (λ (l : List ℕ). getD l 0 0) numbers, ap (λ (l : List ℕ). getD l 1 0) numbers)

@@ -1,6 +1,7 @@
 -- Demand 2 at the calls for C, over outcomes that their contracts allow: a payload comes back from its data field, and from its frame with
 -- its identifier. Assumes nothing.
 --     encoded       a payload that fits is not refused, its field's length is answered, and its field stands in the buffer
+--     field-stands  so the field is what the answered length takes of it
 --     made          a frame likewise, of identifier and payload, with its line
 --     field-back    the field that encoding left, given to decoding, gives the payload back
 --     frame-back    the line that making left, with 0 or 1 in its ACK slot, given to reading, gives identifier and payload back
@@ -11,11 +12,10 @@ use native.Mathlib.Omega.{arith}
 use contract.Lifetimes.{Lfts}
 use denote.Ref.{now}
 use lib.Dec.{lit<}
-use lib.ListN.{length, take, drop, getD}
+use lib.ListN.{length, take, drop}
 use lib.Seq.{take-at}
 use Rattle.bits.specs.Below.{Below}
 use Rattle.refusals.specs.After.{after}
-use Rattle.refusals.specs.Table.{answerNumbers}
 use Rattle.refusals.specs.declared.Answer.{Answer}
 use Rattle.field.specs.Sizes.{fieldBytes}
 use Rattle.field.specs.Field.{fieldOf}
@@ -33,7 +33,7 @@ use Rattle.prushgoli.proofs.prushgoli_encode.Reads as encode
 use Rattle.prushgoli.proofs.prushgoli_decode.Reads as decode
 use Rattle.prushgoli.proofs.prushgoli_make_frame.Reads as make-frame
 use Rattle.prushgoli.proofs.prushgoli_read_line.Reads as read-line
-use Rattle.demands.proofs.ForC.{encode-told, decode-told, make-frame-told}
+use Rattle.demands.proofs.ForC.{encode-told, decode-told, make-frame-told, length-told}
 use Rattle.demands.proofs.Demand2.{field-left, line-left}
 
 -- encoding with the inputs i, its answer a, the parameters s after it; the payload fits
@@ -48,8 +48,8 @@ module _ (κs : Lfts 2) (i : _) (a : ℕ) (s : _) (allowed : encode.Learnt κs i
   pub encoded : (refusalPart a ≡ 0) × (lowPart a ≡ n) × (now (s .1 .0) ≡ fieldOf payload ++ drop n (now (i .1 .0)))
   encoded =
       let left = field-left payload (now (i .1 .0)) short room in
-      let told = encode-told κs i a s allowed ∙ ap answerNumbers (left .0) in
-      (ap (λ (l : List ℕ). getD l 0 0) told, ap (λ (l : List ℕ). getD l 1 0) told, allowed .1 ∙ left .1)
+      let told = length-told a (encode-told κs i a s allowed) (left .0) in
+      (told .0, told .1, allowed .1 ∙ left .1)
 
   pub field-stands : take (lowPart a) (now (s .1 .0)) ≡ fieldOf payload
   field-stands = ap₂ take (encoded .1) (encoded .2) ∙ take-at (fieldOf payload) (drop n (now (i .1 .0))) n (field-length payload)
@@ -59,14 +59,12 @@ module _ (κs : Lfts 2) (i : _) (a : ℕ) (s : _) (allowed : encode.Learnt κs i
       → Below 256 payload → length payload ≤ length (now (j .1 .0))
       → (refusalPart b ≡ 0) × (lowPart b ≡ length payload) × (now (t .1 .0) ≡ payload ++ drop (length payload) (now (j .1 .0)))
   field-back κs′ j b t also handed bytes fits =
+      let old = now (j .1 .0) in
       let field = handed ∙ field-stands in
-      let answered = ap (λ (f : List ℕ). decodeAnswer f (length (now (j .1 .0)))) field ∙ decode-encode payload (length (now (j .1 .0))) bytes short fits in
+      let answered = ap (λ (f : List ℕ). decodeAnswer f (length old)) field ∙ decode-encode payload (length old) bytes short fits in
       let carried = ap payloadOf field ∙ payload-of-field payload bytes short in
-      let told = decode-told κs′ j b t also ∙ ap answerNumbers answered in (
-        ap (λ (l : List ℕ). getD l 0 0) told,
-        ap (λ (l : List ℕ). getD l 1 0) told,
-        also .1 ∙ ap₂ (λ (x : Answer) (p : List ℕ). after x p (now (j .1 .0))) answered carried,
-      )
+      let told = length-told b (decode-told κs′ j b t also) answered in
+      (told .0, told .1, also .1 ∙ ap₂ (λ (x : Answer) (p : List ℕ). after x p old) answered carried)
 
 -- making with the inputs i, its answer a, the parameters s after it; identifier, payload and room are in order
 module _ (κs : Lfts 2) (i : _) (a : ℕ) (s : _) (allowed : make-frame.Learnt κs i a s) (known : i .0 ≤ 2047)
@@ -77,8 +75,8 @@ module _ (κs : Lfts 2) (i : _) (a : ℕ) (s : _) (allowed : make-frame.Learnt �
   pub made : (refusalPart a ≡ 0) × (lowPart a ≡ length line) × (now (s .1 .1 .0) ≡ line ++ drop (length line) (now (i .1 .1 .0)))
   made =
       let left = line-left (i .0) (now (i .1 .0)) (now (i .1 .1 .0)) known short room in
-      let told = make-frame-told κs i a s allowed ∙ ap answerNumbers (left .0) in
-      (ap (λ (l : List ℕ). getD l 0 0) told, ap (λ (l : List ℕ). getD l 1 0) told, allowed .1 ∙ left .1)
+      let told = length-told a (make-frame-told κs i a s allowed) (left .0) in
+      (told .0, told .1, allowed .1 ∙ left .1)
 
   line-stands : take (lowPart a) (now (s .1 .1 .0)) ≡ line
   line-stands = ap₂ take (made .1) (made .2) ∙ take-at line (drop (length line) (now (i .1 .1 .0))) (length line) refl

@@ -12,10 +12,12 @@ module _ {Inputs Answers Exit : Type 0} {allows : Inputs → Answers → Exit �
       → (i : Inputs) (a b : Answers) (s t : Exit) → allows i a s → allows i b t → a ≡ b
   same-answer says i a b s t p q = says i a s p ∙ sym (says i b t q)
 
-  pub settled : {asks : Inputs → Type 0} → ((i : Inputs) → asks i) → ((i : Inputs) (a : Answers) (s : Exit) → allows i a s → a ≡ answer i) → Settled asks allows
+  pub settled : {asks : Inputs → Type 0} → ((i : Inputs) → asks i)
+      → ((i : Inputs) (a : Answers) (s : Exit) → allows i a s → a ≡ answer i) → Settled asks allows
   settled every says = record { every-input = every; one-answer = same-answer says }
 
-  pub settled-with : {asks : Inputs → Type 0} {refusal : Answers → ℕ} {held : Inputs → List ℕ} {holds : Exit → List ℕ} {left : Inputs → Answers → List ℕ}
+  pub settled-with : {asks : Inputs → Type 0} {refusal : Answers → ℕ} {held : Inputs → List ℕ} {holds : Exit → List ℕ}
+      {left : Inputs → Answers → List ℕ}
       → ((i : Inputs) → asks i)
       → ((i : Inputs) (a : Answers) (s : Exit) → allows i a s → (a ≡ answer i) × (holds s ≡ left i a))
       → ((i : Inputs) (a : Answers) → a ≡ answer i → 0 < refusal a → left i a ≡ held i)

@@ -6,13 +6,11 @@
 --     another-field     two payloads leave two fields: so not one with a single fixed field
 --     length-counted    the length is the number of bits of the frame's line: so not one that reports an invented length
 use mathlib.Core.Path.{_≡_, sym, ap, _∙_}
-use mathlib.Core.List.{List}
 use Prim.Native.Nat.{ℕ, _≤_}
 use contract.Lifetimes.{Lfts}
 use denote.Ref.{now}
-use lib.ListN.{length, take, getD}
+use lib.ListN.{length, take}
 use Rattle.bits.specs.Below.{Below}
-use Rattle.refusals.specs.Table.{answerNumbers}
 use Rattle.field.specs.Sizes.{fieldBytes}
 use Rattle.field.specs.Field.{fieldOf}
 use Rattle.field.specs.Decode.{payloadOf}
@@ -22,7 +20,7 @@ use Rattle.frame.proofs.FrameAnswers.{length-accepts}
 use Rattle.prushgoli.specs.Packing.{lowPart, refusalPart}
 use Rattle.prushgoli.proofs.prushgoli_encode.Reads as encode
 use Rattle.prushgoli.proofs.prushgoli_frame_length.Reads as frame-length
-use Rattle.demands.proofs.ForC.{frame-length-told}
+use Rattle.demands.proofs.ForC.{frame-length-told, length-told}
 use Rattle.demands.proofs.RoundTrips.{encoded, field-stands}
 
 -- encoding with the inputs i, its answer a, the parameters s after it; the payload fits
@@ -49,5 +47,4 @@ another-field κs κs′ i j a b s t allowed allowed′ bytes bytes′ short sho
 pub length-counted : (κs : Lfts 1) (i : _) (a : ℕ) (s : _) → frame-length.Learnt κs i a s → i .0 ≤ 2047 → length (now (i .1 .0)) ≤ 7
     → (refusalPart a ≡ 0) × (lowPart a ≡ length (payloadLine (i .0) (now (i .1 .0))))
 length-counted κs i a s allowed known short =
-    let told = frame-length-told κs i a s allowed ∙ ap answerNumbers (length-accepts (i .0) (now (i .1 .0)) known short) in
-    (ap (λ (l : List ℕ). getD l 0 0) told, ap (λ (l : List ℕ). getD l 1 0) told)
+    length-told a (frame-length-told κs i a s allowed) (length-accepts (i .0) (now (i .1 .0)) known short)

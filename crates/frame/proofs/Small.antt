@@ -38,9 +38,9 @@ module _ (identifier : ℕ) (payload : List ℕ) where
   fits short =
       let field = fieldOf payload in
       let head = header-length identifier (length field) in
-      let few : 8 * length field ≤ 64 = omega (arith, field-length payload, fieldBytes-few (length payload) short) in
-      let most =
-      line-few (header identifier (length field)) (unpacked 8 field) (omega (arith, head)) (omega (arith, few, unpacked-length 8 field)) in
+      let few : length (unpacked 8 field) ≤ 64
+      = omega (arith, unpacked-length 8 field, field-length payload, fieldBytes-few (length payload) short) in
+      let most = line-few (header identifier (length field)) (unpacked 8 field) (omega (arith, head)) few in
       (lit< tt, (omega (arith, most), tt))
 
   checked : (unknown long : Bool) → ltb 7 (length payload) ≡ long → (next : Answer) → (length payload ≤ 7 → Below 133 (answerNumbers next))
