@@ -8,6 +8,7 @@
 --     number-from      what stands before a row counts as so many times the row's power
 --     number-below     a row of k bits writes a number of k bits
 --     bits-number      the bits of a row's number are the row
+--     bits-low         of k bits of a number only its k lowest count
 --     number-only      rows of one length that write one number are one row
 --     bits-join        two numbers put together: the bits of the one, and behind them those of the other
 use mathlib.Core.Path.{_≡_, refl, sym, ap, ap₂, _∙_}
@@ -77,6 +78,9 @@ bits-number a (b ∷ l) h =
     ap₂ _∷_
     (rw (number-from (a * 2 + b) l, high (a * 2 + b) (length l) (number-below l (h .1))) (digits-mod a (h .0)))
     (bits-number (a * 2 + b) l (h .1))
+
+pub bits-low : (k n : ℕ) → bits k (n % 2 ^ k) ≡ bits k n
+bits-low k n = sym (ap₂ bits (bits-length k n) (number-low k n)) ∙ bits-number 0 (bits k n) (bits-below k n)
 
 pub number-only : (l m : List ℕ) → Below 2 l → Below 2 m → length l ≡ length m → number 0 l ≡ number 0 m → l ≡ m
 number-only l m h g e n = sym (bits-number 0 l h) ∙ ap₂ bits e n ∙ bits-number 0 m g

@@ -4,9 +4,8 @@
 --     divide-short        while the register's top bit is 0 nothing is taken off
 --     divide-top          where it is 1 the divisor is taken off, once
 --     remainder-append    a row behind a row
---     remainder-next      the next bit where a loop counts down the bits that are left
---     crc-below           the CRC has 15 bits
---     crc-parts           the CRC of two rows, from the parts that the code brings down
+--     remainder-below     the register has 15 bits
+--     crc-below           and so has the CRC
 use mathlib.Core.Path.{_≡_, refl, sym, _∙_}
 use mathlib.Core.List.{List, [], _∷_, _++_}
 use Prim.Native.Nat.{ℕ, zero, suc, _+_, _-_, _*_, _/_, _%_, _^_, _≤_, _<_}
@@ -65,12 +64,7 @@ unfolding remainder
 remainder-append register [] m = refl
 remainder-append register (b ∷ l) m = remainder-append (divide register b) l m
 
-pub remainder-next : (register left number : ℕ) → 0 < left →
-    remainder (divide register (number / 2 ^ (left - 1) % 2)) (bits (left - 1) number) ≡ remainder register (bits left number)
-unfolding remainder
-remainder-next register left number h = rw (bits-next left number h)
-
-remainder-below : (register : ℕ) (l : List ℕ) → register < 2 ^ 15 → remainder register l < 2 ^ 15
+pub remainder-below : (register : ℕ) (l : List ℕ) → register < 2 ^ 15 → remainder register l < 2 ^ 15
 unfolding remainder
 remainder-below register [] h = h
 remainder-below register (b ∷ l) h = remainder-below (divide register b) l (divide-below register b)
@@ -78,11 +72,3 @@ remainder-below register (b ∷ l) h = remainder-below (divide register b) l (di
 pub crc-below : (l : List ℕ) → crc l < 2 ^ 15
 unfolding crc
 crc-below l = remainder-below 0 (l ++ replicate 15 0) (lit< tt)
-
-zeros : replicate 15 0 ≡ bits 15 0
-unfolding bits
-zeros = refl
-
-pub crc-parts : (l m : List ℕ) → crc (l ++ m) ≡ remainder (remainder (remainder 0 l) m) (bits 15 0)
-unfolding crc
-crc-parts l m = simp (remainder-append, zeros)

@@ -1,8 +1,11 @@
 pub mod HeaderBits
 pub mod Division
+pub mod Linear
+pub mod CrcFours
 pub mod CrcExamples
 pub mod CrcBits
-pub mod NextBit
+pub mod FourBits
+pub mod Quiet
 pub mod Written
 pub mod LineParts
 pub mod HeaderStuff

@@ -2,24 +2,27 @@
 --     stuffCount-three    the stuff bits of three rows one behind the other, from the start of frame
 --     line-length     a line's bits are those of its parts and the stuff bits
 --     after-header, after-data, after-crc    the stuff bits that follow bits of a part, by the part alone and the run before it
---     parts-line      the line that the code's parts make is the line of their header and data field
---     parts-length    and how many bits it has
+--     line-sent       a line as the code sends it: fourteen CRC bits with what goes before them, then eleven bits as they are
+--     line-parts      and in two parts, of which the second follows the data field
+--     quiet-length    how many bits the line of a frame's parts has, where no data bit draws a stuff bit
 use mathlib.Core.Path.{_≡_, refl, sym, ap, ap₂, _∙_}
 use mathlib.Core.List.{List, _++_, append-assoc}
-use Prim.Native.Nat.{ℕ, _+_, _≤_}
+use Prim.Native.Nat.{ℕ, _+_, _*_, _/_, _%_, _≤_}
 use native.Mathlib.Omega.{arith}
 use lib.ListN.{length, take, drop, length-append, length-take, length-drop}
 use lib.Seq.{take-at, drop-at, take-all}
 use Rattle.bits.specs.declared.Run.{Run}
 use Rattle.bits.specs.Rows.{bits}
-use Rattle.bits.specs.Stuffing.{nothingSent, stuffCount, runAfterRow}
+use Rattle.bits.specs.Stuffing.{nothingSent, stuffed, stuffCount, runAfterRow}
 use Rattle.bits.proofs.Rows.{bits-length}
-use Rattle.bits.proofs.Stuffing.{runAfterRow-append, stuffCount-append, stuffed-length}
+use Rattle.bits.proofs.Stuffing.{runAfterRow-append, stuffCount-append, stuffed-append, stuffed-length}
 use Rattle.frame.specs.Crc.{crc}
-use Rattle.frame.specs.Line.{crcBits, stuffedCrcBits, stuffedRow, ending, lineOf}
+use Rattle.frame.specs.Line.{crcBits, stuffedCrcBits, stuffedRow, lineOf}
 use Rattle.frame.specs.StuffBits.{stuffBitsIn, afterHeader, afterData, afterCrc}
-use Rattle.frame.specs.Parts.{row, lineIn}
+use Rattle.frame.specs.Writing.{tailRow}
+use Rattle.frame.specs.Parts.{headerBits, dataBits, Fit, lineIn}
 use Rattle.frame.specs.declared.parts.Parts.{Parts}
+use Rattle.frame.proofs.CrcBits.{crc-stuffed, crc-plain}
 
 -- the runs that header and data bits leave
 abbrev pub headerRun : List ℕ → Run
@@ -78,17 +81,41 @@ module _ (headerBits dataBits : List ℕ) where
       (ap (runAfterRow nothingSent) (ap (take n) joined ∙ take-at before crcFront n long) ∙ runAfterRow-append nothingSent headerBits dataBits)
       (ap (take 15) (ap (drop n) joined ∙ drop-at before crcFront n long) ∙ take-all 15 crcFront few)
 
-pub parts-line : (p : Parts) (x : ℕ) → x ≡ crc (row (p .header) ++ row (p .field))
-    → row (p .check) ≡ take stuffedCrcBits (bits 15 x) → row (p .ending) ≡ drop stuffedCrcBits (bits 15 x) ++ ending 1
-    → lineIn p ≡ lineOf (row (p .header)) (row (p .field))
-unfolding lineIn lineOf stuffedRow crcBits
-parts-line p x e check rest = rw (check, rest, e)
+pub line-sent : (headerBits dataBits : List ℕ) →
+    let x = crc (headerBits ++ dataBits) in
+    lineOf headerBits dataBits
+    ≡ stuffed nothingSent (headerBits ++ (dataBits ++ bits 14 (x / 2))) ++ bits 11 (x % 2 * 1024 + 1023)
+unfolding lineOf stuffedRow crcBits
+line-sent headerBits dataBits =
+    let x = crc (headerBits ++ dataBits) in
+    ap₂ (λ (l m : List ℕ). stuffed nothingSent (headerBits ++ (dataBits ++ l)) ++ m) (sym (crc-stuffed x)) (sym (crc-plain x))
 
-pub parts-length : (p : Parts) → length (lineIn p)
-    ≡ p .header .count + p .field .count + p .check .count + p .ending .count
-    + (stuffCount nothingSent (row (p .header)) + (stuffCount (headerRun (row (p .header))) (row (p .field))
-    + stuffCount (dataRun (row (p .header)) (row (p .field))) (row (p .check))))
-unfolding lineIn
-parts-length p =
-    simp (length-append, stuffed-length, bits-length)
-    (omega (arith, stuffCount-three (row (p .header)) (row (p .field)) (row (p .check))))
+pub line-parts : (headerBits dataBits : List ℕ) →
+    let x = crc (headerBits ++ dataBits) in
+    lineOf headerBits dataBits ≡ stuffed nothingSent (headerBits ++ dataBits) ++ tailRow (runAfterRow nothingSent (headerBits ++ dataBits)) x
+line-parts headerBits dataBits =
+    let x = crc (headerBits ++ dataBits) in
+    let before = headerBits ++ dataBits in
+    let check = bits 14 (x / 2) in
+    let rest = bits 11 (x % 2 * 1024 + 1023) in
+    line-sent headerBits dataBits
+    ∙ ap (λ (l : List ℕ). stuffed nothingSent l ++ rest) (sym (append-assoc headerBits dataBits check))
+    ∙ ap (λ (l : List ℕ). l ++ rest) (stuffed-append nothingSent before check)
+    ∙ append-assoc (stuffed nothingSent before) (stuffed (runAfterRow nothingSent before) check) rest
+
+pub quiet-length : (p : Parts) → Fit p →
+    let x = crc (headerBits p ++ dataBits p) in
+    length (lineIn p)
+    ≡ 44 + 8 * p .n + (stuffCount nothingSent (headerBits p) + stuffCount (dataRun (headerBits p) (dataBits p)) (bits 14 (x / 2)))
+unfolding crcBits
+quiet-length p fit =
+    let x = crc (headerBits p ++ dataBits p) in
+    let check = ap (stuffCount (dataRun (headerBits p) (dataBits p))) (crc-stuffed x) in
+    omega (
+      arith,
+      line-length (headerBits p) (dataBits p),
+      bits-length 19 (p .header),
+      bits-length (8 * p .n) (p .field),
+      fit .quiet,
+      check,
+    )

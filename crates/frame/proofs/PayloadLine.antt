@@ -4,6 +4,7 @@
 --     ack-in-place  where the ACK slot stands among these
 --     line-below    each of its bytes is 0 or 1
 --     coded-few     a coded field has at most eight bytes
+--     coded-quiet   its bits draw no stuff bit behind a header's
 --     coded-line    its number behind a header's bits gives that line
 use mathlib.Core.Path.{_≡_, refl, sym, ap, ap₂, _∙_, subst}
 use mathlib.Core.List.{List, [], _∷_, _++_}
@@ -12,7 +13,7 @@ use lib.ListN.{length, take, drop, replicate}
 use Rattle.bits.specs.Below.{Below}
 use Rattle.bits.specs.Rows.{bits}
 use Rattle.bits.specs.Packing.{unpacked}
-use Rattle.bits.specs.Stuffing.{nothingSent, stuffed}
+use Rattle.bits.specs.Stuffing.{nothingSent, stuffed, stuffCount}
 use Rattle.bits.proofs.Below.{below-append, below-take, below-drop}
 use Rattle.bits.proofs.Rows.{bits-below}
 use Rattle.bits.proofs.Packing.{unpacked-below, bits-unpacked}
@@ -28,6 +29,8 @@ use Rattle.frame.specs.Line.{crcBits, stuffedRow, ending, lineOf, frameL
 use Rattle.frame.specs.Answers.{payloadLine}
 use Rattle.frame.proofs.HeaderBits.{header-below}
 use Rattle.frame.proofs.CrcBits.{crc-stuffed, crc-last}
+use Rattle.frame.proofs.LineParts.{headerRun, after-data}
+use Rattle.frame.proofs.Demand3.{data-none}
 
 pub frame-is : (identifier : ℕ) (payload : List ℕ) → length payload ≤ 7 →
     let headerBits = header identifier (fieldBytes (length payload)) in
@@ -61,6 +64,14 @@ line-below identifier payload =
 pub coded-few : (payload : List ℕ) (n v : ℕ) → IsField payload n v → n ≤ 8
 coded-few payload n v coded =
     subst (λ (m : ℕ). m ≤ 8) (sym (coded .bytes ∙ field-length payload)) (fieldBytes-few (length payload) (coded .short))
+
+pub coded-quiet : (identifier : ℕ) (payload headerBits : List ℕ) (n v : ℕ) → IsField payload n v → headerBits ≡ header identifier n
+    → Below 256 payload → stuffCount (headerRun headerBits) (bits (8 * n) v) ≡ 0
+coded-quiet identifier payload headerBits n v coded e bytes =
+    let field = fieldOf payload in
+    let headers = e ∙ ap (header identifier) (coded .bytes) in
+    ap₂ (λ (l m : List ℕ). stuffCount (headerRun l) m) headers (bits-unpacked 8 n v field (coded .bytes) (coded .number-is))
+    ∙ sym (after-data (header identifier (length field)) (unpacked 8 field)) ∙ data-none identifier payload bytes (coded .short)
 
 pub coded-line : (identifier : ℕ) (payload headerBits : List ℕ) (n v : ℕ) → IsField payload n v → headerBits ≡ header identifier n
     → lineOf headerBits (bits (8 * n) v) ≡ payloadLine identifier payload

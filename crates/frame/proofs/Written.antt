@@ -1,101 +1,179 @@
 -- The laws of writing bits into a line. Assumes nothing.
 --     written-length      a line is as long as it was
---     written-no-stuff    a bit is written that no stuff bit follows
---     written-one-stuff   a bit is written with its stuff bit
---     written-next        the next bit of a number is written: what is left leads where all of it led
---     room-first, room-kept    the room that a row takes with what follows it, before it is written and behind it
+--     written-four, written-five    four bits are written, without a stuff bit or with one
+--     written-next        the next four bits of a number are written: what is left leads where all of it led
 --     written-behind      two rows are written one behind the other, with their stuff bits
---     written-line        a row is written from the start of a line on, and bits that are not stuffed behind it
+--     written-header      a header is written, its first three bits as they are
+--     written-field       a field that draws no stuff bit is written as it is
+--     written-tail        what follows it: the two bits behind the CRC's fourteen are written over
+--     tail-room           the room that this takes
+--     written-line        a row is written from the start of a line on, and bits as they are behind it
 use mathlib.Core.Path.{_≡_, refl, sym, ap, _∙_}
-use mathlib.Core.List.{List, _∷_, _++_}
-use Prim.Native.Nat.{ℕ, _+_, _-_, _≤_, _<_}
+use mathlib.Core.List.{List, [], _∷_, _++_}
+use Prim.Native.Nat.{ℕ, suc, _+_, _-_, _*_, _/_, _%_, _^_, _≤_, _<_}
 use native.Mathlib.Nat.{zero-add}
-use native.Mathlib.Numerals.{add-one}
 use native.Mathlib.Omega.{arith}
+use lib.Dec.{lit<}
 use lib.ListN.{length, length-append, drop, set}
-use lib.Seq.{sets, length-sets, sets-eq}
+use lib.Seq.{sets, length-sets, sets-eq, set-set, set-comm}
 use Rattle.bits.specs.declared.Run.{Run}
 use Rattle.bits.specs.Rows.{bits}
-use Rattle.bits.specs.Stuffing.{nothingSent, stuffAfter, runAfter, stuffed, runAfterRow}
+use Rattle.bits.specs.Stuffing.{nothingSent, stuffed, stuffCount, runAfterRow}
 use Rattle.bits.proofs.Filling.{sets-append}
-use Rattle.bits.proofs.Stuffing.{no-stuff, one-stuff, runAfterRow-append, stuffed-append}
+use Rattle.bits.proofs.Rows.{bits-length, bits-next, bits-low}
+use Rattle.bits.proofs.Stuffing.{runAfterRow-append, stuffed-append}
+use Rattle.frame.specs.Fours.{fourAt, runOf, sentOf, quietCheck}
 use Rattle.frame.specs.declared.writing.Spot.{Spot}
-use Rattle.frame.specs.Writing.{Written}
-use Rattle.frame.proofs.NextBit.{nextBit, runAfterRow-next, stuffed-next}
+use Rattle.frame.specs.Writing.{Written, tailRow}
+use Rattle.frame.proofs.Quiet.{quiet-sent, header-run-is, header-sent, check-sent}
+use Rattle.frame.proofs.FourBits.{run-fours, sent-fours, sent-row, sent-run, sent-below}
 
-pub written-length : {spot : Spot} {sent : List ℕ} {behind : Run} {before line : List ℕ} {next : Spot}
-    → Written spot sent behind before line next → length line ≡ length before
-written-length {spot} {sent} {behind} {before} w = ap length (w .line-is) ∙ length-sets before (spot .at) sent
+pub written-length : {r : Run} {at : ℕ} {row before line : List ℕ} {next : Spot} → Written r at row before line next → length line ≡ length before
+written-length {r} {at} {row} {before} w = ap length (w .line-is) ∙ length-sets before at (stuffed r row)
 
-pub written-no-stuff : (spot : Spot) (b : ℕ) (r : Run) (line : List ℕ) → b < 2 → r ≡ runAfter (spot .run) b → r .count ≤ 4 → r .bit ≡ b
-    → Written spot (b ∷ stuffAfter (spot .run) b) (runAfter (spot .run) b) line (set line (spot .at) b) (record { run = r; at = spot .at + 1 })
-written-no-stuff spot b r line h e few same =
-    let none = no-stuff (spot .run) b h (sym (ap (λ (s : Run). s .bit) e) ∙ same) in
-    record { line-is = rw none refl; run-is = e; at-is = rw none refl; few = few }
+-- four bits and what they draw, from the number that the list holds
+module _ (last four at s : ℕ) (before : List ℕ) (h : last < 16) (g : four < 16) (e : s ≡ sentOf last four) where
+  row-is : bits (4 + s / 32) s ≡ stuffed (runOf last) (bits 4 four)
+  row-is = ap (λ (n : ℕ). bits (4 + n / 32) n) e ∙ sent-row last four h g
 
-pub written-one-stuff : (spot : Spot) (b : ℕ) (r : Run) (line : List ℕ) → r ≡ runAfter (spot .run) b → r .count ≤ 4 → (r .bit ≡ b → ⊥)
-    → Written spot (b ∷ stuffAfter (spot .run) b) (runAfter (spot .run) b) line (set (set line (spot .at) b) (spot .at + 1) (r .bit))
-    (record { run = r; at = spot .at + 2 })
-written-one-stuff spot b r line e few other =
-    let two = one-stuff (spot .run) b (λ same. other (ap (λ (s : Run). s .bit) e ∙ same)) in
-    record { line-is = rw (two, e, add-one) refl; run-is = e; at-is = rw two (omega arith); few = few }
+  run-left : runOf (s % 16) ≡ runAfterRow (runOf last) (bits 4 four)
+  run-left = ap (λ (n : ℕ). runOf (n % 16)) e ∙ sent-run last four h g
 
-pub written-next : (spot next : Spot) (before line : List ℕ) (k n : ℕ) → 0 < k →
-    let r : Run = spot .run in
-    let b : ℕ = nextBit k n in
-    Written spot (b ∷ stuffAfter r b) (runAfter r b) before line next →
-    (sets before (spot .at) (stuffed r (bits k n)) ≡ sets line (next .at) (stuffed (next .run) (bits (k - 1) n)))
-    × (runAfterRow r (bits k n) ≡ runAfterRow (next .run) (bits (k - 1) n))
-    × (spot .at + length (stuffed r (bits k n)) ≡ next .at + length (stuffed (next .run) (bits (k - 1) n)))
-written-next spot next before line k n h w =
-    let r : Run = spot .run in
-    let b : ℕ = nextBit k n in
-    let rest : List ℕ = stuffed (runAfter r b) (bits (k - 1) n) in
-    let e = stuffed-next r k n h in (
+  pub written-four : (line : List ℕ) (to : ℕ) → s < 32 → line ≡ sets before at (bits 4 (s % 16)) → to ≡ at + 4
+      → Written (runOf last) at (bits 4 four) before line (record { last = s % 16; at = to })
+  written-four line to none written place =
+      let zero : s / 32 ≡ 0 = omega arith in
+      let row : bits 4 (s % 16) ≡ stuffed (runOf last) (bits 4 four) = bits-low 4 s ∙ ap (λ (k : ℕ). bits (4 + k) s) (sym zero) ∙ row-is in
+      record {
+        line-is = written ∙ ap (sets before at) row;
+        run-is = run-left;
+        low = omega arith;
+        at-is = omega (arith, place, ap length row, bits-length 4 (s % 16));
+      }
+
+  pub written-five : (line : List ℕ) (to : ℕ) → 32 ≤ s → line ≡ sets (set before at (s / 16 % 2)) (at + 1) (bits 4 (s % 16)) → to ≡ at + 1 + 4
+      → Written (runOf last) at (bits 4 four) before line (record { last = s % 16; at = to })
+  written-five line to some written place =
+      let one : s / 32 ≡ 1 = omega (arith, e, sent-below last four h g) in
+      let row : (s / 16 % 2) ∷ bits 4 (s % 16) ≡ stuffed (runOf last) (bits 4 four) =
+      ap (λ (l : List ℕ). (s / 16 % 2) ∷ l) (bits-low 4 s) ∙ sym (bits-next 5 s (lit< tt)) ∙ ap (λ (k : ℕ). bits (4 + k) s) (sym one) ∙ row-is in
+      let next : at + 1 ≡ suc at = omega arith in
+      record {
+        line-is = written ∙ rw next (ap (sets before at) row);
+        run-is = run-left;
+        low = omega arith;
+        at-is = omega (arith, place, ap length row, bits-length 4 (s % 16));
+      }
+
+pub written-next : (spot next : Spot) (before line : List ℕ) (left n : ℕ) → 0 < left →
+    let r : Run = runOf (spot .last) in
+    let s : Run = runOf (next .last) in
+    Written r (spot .at) (bits 4 (fourAt n (left - 1))) before line next →
+    (sets before (spot .at) (stuffed r (bits (4 * left) n)) ≡ sets line (next .at) (stuffed s (bits (4 * (left - 1)) n)))
+    × (runAfterRow r (bits (4 * left) n) ≡ runAfterRow s (bits (4 * (left - 1)) n))
+    × (spot .at + length (stuffed r (bits (4 * left) n)) ≡ next .at + length (stuffed s (bits (4 * (left - 1)) n)))
+written-next spot next before line left n h w =
+    let r : Run = runOf (spot .last) in
+    let row : List ℕ = bits 4 (fourAt n (left - 1)) in
+    let e = sent-fours r left n h in (
       ap (sets before (spot .at)) e
-          ∙ sets-append before (spot .at) (b ∷ stuffAfter r b) rest
+          ∙ sets-append before (spot .at) (stuffed r row) (stuffed (runAfterRow r row) (bits (4 * (left - 1)) n))
           ∙ rw (w .line-is, w .at-is, w .run-is) refl,
-      runAfterRow-next r (next .run) k n h (w .run-is),
+      run-fours r left n h ∙ rw (w .run-is) refl,
       rw (e, w .at-is, w .run-is, length-append) (omega arith),
     )
 
-pub room-first : (spot : Spot) (l m : List ℕ) → length (stuffed (spot .run) l) ≤ length (stuffed (spot .run) (l ++ m))
-room-first spot l m = rw (stuffed-append (spot .run) l m, length-append) (omega arith)
-
-pub room-kept : {spot next : Spot} {first second : List ℕ} (l m : List ℕ)
-    → Written spot (stuffed (spot .run) l) (runAfterRow (spot .run) l) first second next
-    → next .at + length (stuffed (next .run) m) ≡ spot .at + length (stuffed (spot .run) (l ++ m))
-room-kept {spot} l m w = rw (w .at-is, w .run-is, stuffed-append (spot .run) l m, length-append) (omega arith)
-
-pub written-behind : {spot next last : Spot} {first second third : List ℕ} (l m : List ℕ)
-    → Written spot (stuffed (spot .run) l) (runAfterRow (spot .run) l) first second next
-    → Written next (stuffed (next .run) m) (runAfterRow (next .run) m) second third last
-    → Written spot (stuffed (spot .run) (l ++ m)) (runAfterRow (spot .run) (l ++ m)) first third last
-written-behind {spot} {next} {last} {first} {second} {third} l m w v =
-    let r = spot .run in
+pub written-behind : {r : Run} {at : ℕ} {next last : Spot} {first second third : List ℕ} (l m : List ℕ)
+    → Written r at l first second next
+    → Written (runOf (next .last)) (next .at) m second third last
+    → Written r at (l ++ m) first third last
+written-behind {r} {at} {next} {last} {first} {second} {third} l m w v =
     let sent = stuffed-append r l m in
     let here = stuffed (runAfterRow r l) m in
     record {
-      line-is =
-          v .line-is ∙ rw (w .line-is, w .at-is, w .run-is) (sym (ap (sets first (spot .at)) sent ∙ sets-append first (spot .at) (stuffed r l) here));
+      line-is = v .line-is ∙ rw (w .line-is, w .at-is, w .run-is) (sym (ap (sets first at) sent ∙ sets-append first at (stuffed r l) here));
       run-is = v .run-is ∙ rw (w .run-is) (sym (runAfterRow-append r l m));
+      low = v .low;
       at-is = v .at-is ∙ rw (w .at-is, w .run-is, sent, length-append) (omega arith);
-      few = v .few;
     }
 
--- where a line starts
-abbrev pub start : Spot
-start = record { run = nothingSent; at = 0 }
+written-over : (l : List ℕ) (i a b x y : ℕ) (rest : List ℕ) → sets (sets l i (a ∷ b ∷ [])) i (x ∷ y ∷ rest) ≡ sets l i (x ∷ y ∷ rest)
+written-over l i a b x y rest =
+    let swapped : set (set (set l i a) (suc i) b) i x ≡ set (set l i x) (suc i) b =
+    set-comm (set l i a) (suc i) i b x (λ e. omega arith) ∙ ap (λ (m : List ℕ). set m (suc i) b) (set-set l i a x) in
+    ap (λ (m : List ℕ). sets (set m (suc i) y) (suc (suc i)) rest) swapped
+    ∙ ap (λ (m : List ℕ). sets m (suc (suc i)) rest) (set-set (set l i x) (suc i) b y)
 
-pub written-line : (l plain first second third : List ℕ) (next : Spot) →
-    let whole : List ℕ = stuffed nothingSent l ++ plain in
-    Written start (stuffed nothingSent l) (runAfterRow nothingSent l) first second next → third ≡ sets second (next .at) plain
+pub written-header : (h : ℕ) (first second third : List ℕ) (next : Spot) → h < 2 ^ 18 → second ≡ sets first 0 (bits 3 (h / 2 ^ 16))
+    → Written (runOf (8 + h / 2 ^ 16)) 3 (bits 16 h) second third next
+    → Written nothingSent 0 (bits 19 h) first third next
+written-header h first second third next starts e w =
+    let three = bits 3 (h / 2 ^ 16) in
+    let rest = stuffed (runOf (8 + h / 2 ^ 16)) (bits 16 h) in
+    let sent = header-sent h starts in
+    record {
+      line-is =
+          w .line-is ∙ ap (λ (l : List ℕ). sets l 3 rest) e
+          ∙ sym (ap (sets first 0) sent ∙ sets-append first 0 three rest ∙ ap (λ (k : ℕ). sets (sets first 0 three) k rest) (ap (λ (k : ℕ). 0 + k) (bits-length 3 (h / 2 ^ 16))));
+      run-is = w .run-is ∙ sym (header-run-is h starts);
+      low = w .low;
+      at-is = omega (arith, w .at-is, ap length sent, length-append three rest, bits-length 3 (h / 2 ^ 16));
+    }
+
+pub written-field : (r : Run) (at n v last to : ℕ) (before line : List ℕ) → stuffCount r (bits (8 * n) v) ≡ 0
+    → runOf last ≡ runAfterRow r (bits (8 * n) v) → last < 16
+    → line ≡ sets before at (bits (4 * (2 * n)) v) → to ≡ at + 4 * (2 * n)
+    → Written r at (bits (8 * n) v) before line (record { last = last; at = to })
+written-field r at n v last to before line quiet behind low written place =
+    let all : 4 * (2 * n) ≡ 8 * n = omega arith in
+    let sent = quiet-sent r (bits (8 * n) v) quiet in
+    record {
+      line-is = written ∙ ap (sets before at) (ap (λ (k : ℕ). bits k v) all ∙ sym sent);
+      run-is = behind;
+      low = low;
+      at-is = omega (arith, place, ap length sent, bits-length (8 * n) v);
+    }
+
+-- how many bits go out behind the data field, with the two that are written over
+pub tail-room : (r : Run) (crc : ℕ) →
+    (length (stuffed r (bits 16 (quietCheck crc))) ≡ length (stuffed r (bits 14 (crc / 2))) + 2)
+    × (length (tailRow r crc) ≡ length (stuffed r (bits 14 (crc / 2))) + 11)
+tail-room r crc =
+    let front = stuffed r (bits 14 (crc / 2)) in (
+      ap length (check-sent r crc) ∙ length-append front _ ∙ ap (λ (k : ℕ). length front + k) (bits-length 2 _),
+      length-append front _ ∙ ap (λ (k : ℕ). length front + k) (bits-length 11 _),
+    )
+
+-- eleven bits over two
+eleven-over : (l : List ℕ) (i a b : ℕ) → sets (sets l i (bits 2 a)) i (bits 11 b) ≡ sets l i (bits 11 b)
+unfolding bits
+eleven-over l i a b = written-over l i (a / 2 ^ 1 % 2) (a / 2 ^ 0 % 2) (b / 2 ^ 10 % 2) (b / 2 ^ 9 % 2) (bits 9 b)
+
+pub written-tail : (r : Run) (at crc to : ℕ) (first second third : List ℕ) (next : Spot)
+    → Written r at (bits 16 (quietCheck crc)) first second next
+    → third ≡ sets second (next .at - 2) (bits 11 (crc % 2 * 1024 + 1023)) → to ≡ next .at - 2 + 11
+    → (third ≡ sets first at (tailRow r crc)) × (to ≡ at + length (tailRow r crc))
+written-tail r at crc to first second third next w e place =
+    let front = stuffed r (bits 14 (crc / 2)) in
+    let two = bits 2 (2 - crc / 2 % 2) in
+    let last = bits 11 (crc % 2 * 1024 + 1023) in
+    let room = tail-room r crc in
+    let behind : next .at - 2 ≡ at + length front = omega (arith, w .at-is, room .0) in
+    let both : second ≡ sets (sets first at front) (at + length front) two =
+    w .line-is ∙ ap (sets first at) (check-sent r crc) ∙ sets-append first at front two in (
+      e ∙ rw (behind, both) (eleven-over (sets first at front) (at + length front) _ _) ∙ sym (sets-append first at front last),
+      omega (arith, place, behind, room .1),
+    )
+
+pub written-line : (l tail first second third : List ℕ) (next : Spot) (to : ℕ) →
+    let whole : List ℕ = stuffed nothingSent l ++ tail in
+    Written nothingSent 0 l first second next → third ≡ sets second (next .at) tail → to ≡ next .at + length tail
     → length whole ≤ length first
-    → (next .at + length plain ≡ length whole) × (third ≡ whole ++ drop (length whole) first)
-written-line l plain first second third next w e room =
+    → (to ≡ length whole) × (third ≡ whole ++ drop (length whole) first)
+written-line l tail first second third next to w e place room =
     let sent = stuffed nothingSent l in
-    let whole = sent ++ plain in (
-      rw (w .at-is, length-append) (omega arith),
-      e ∙ rw (w .line-is, w .at-is) (sym (sets-append first 0 sent plain)) ∙ sets-eq whole first 0 (rw (zero-add (length whole)) room)
+    let whole = sent ++ tail in (
+      omega (arith, place, w .at-is, length-append sent tail),
+      e ∙ rw (w .line-is, w .at-is) (sym (sets-append first 0 sent tail)) ∙ sets-eq whole first 0 (rw (zero-add (length whole)) room)
           ∙ ap (λ (n : ℕ). whole ++ drop n first) (zero-add (length whole)),
     )

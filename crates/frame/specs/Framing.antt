@@ -5,7 +5,7 @@ use mathlib.Core.List.{List}
 use lib.ListN.{length}
 use Rattle.refusals.specs.declared.Answer.the-variants.{Refused}
 use Rattle.frame.specs.Answers.{payloadLine, lengthAnswer, makeAnswer}
-use Rattle.frame.specs.Parts.{FitAll, lineIn}
+use Rattle.frame.specs.Parts.{Fit, lineIn}
 use Rattle.frame.specs.declared.parts.Parts.{Parts}
 use Rattle.frame.specs.declared.framing.Framed.{Framed}
 use Rattle.frame.specs.declared.framing.Framed.the-variants as framed
@@ -16,7 +16,7 @@ pub record IsFrame (p : Parts) (identifier : ℕ) (payload : List ℕ) : Type 0 
   pub short : length payload ≤ 7
   pub line-is : lineIn p ≡ payloadLine identifier payload
   pub enough : length (lineIn p) ≤ 116
-  pub fit : FitAll p
+  pub fit : Fit p
 
 -- these, or a refusal of the length and of the frame, whatever the room
 abbrev pub Gives : Framed → ℕ → List ℕ → Type 0

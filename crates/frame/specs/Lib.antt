@@ -1,8 +1,10 @@
 pub mod Header
 pub mod Crc
+pub mod CrcFours
 pub mod Line
 pub mod StuffBits
 pub mod Answers
 pub mod Parts
+pub mod Fours
 pub mod Writing
 pub mod Framing

@@ -1,22 +1,25 @@
 -- A frame in its parts, as the code has them; no public contract cites it. Assumes nothing.
-use Prim.Native.Nat.{ℕ, _≤_}
-use mathlib.Core.List.{List, _++_}
+use mathlib.Core.Path.{_≡_}
+use Prim.Native.Nat.{ℕ, _*_, _^_, _≤_, _<_}
+use mathlib.Core.List.{List}
 use Rattle.bits.specs.Rows.{bits}
-use Rattle.bits.specs.Stuffing.{nothingSent, stuffed}
-use Rattle.frame.specs.declared.parts.Part.{Part}
+use Rattle.bits.specs.Stuffing.{nothingSent, stuffCount, runAfterRow}
+use Rattle.frame.specs.Line.{lineOf}
 use Rattle.frame.specs.declared.parts.Parts.{Parts}
 
--- the bits of a part
-abbrev pub row : Part → List ℕ
-row p = bits (p .count) (p .number)
+-- the bits of the header and of the data field
+abbrev pub headerBits : Parts → List ℕ
+headerBits p = bits 19 (p .header)
 
--- a part is no longer than a machine's word
-abbrev pub Fits : Part → Type 0
-Fits p = p .count ≤ 64
+abbrev pub dataBits : Parts → List ℕ
+dataBits p = bits (8 * p .n) (p .field)
 
-abbrev pub FitAll : Parts → Type 0
-FitAll p = Fits (p .header) × Fits (p .field) × Fits (p .check) × Fits (p .ending)
+-- a header that starts with 0, and at most eight bytes of data, which draw no stuff bit behind it
+pub record Fit (p : Parts) : Type 0 where
+  pub starts : p .header < 2 ^ 18
+  pub few : p .n ≤ 8
+  pub quiet : stuffCount (runAfterRow nothingSent (headerBits p)) (dataBits p) ≡ 0
 
 -- the line that the parts make
-unfoldable pub lineIn : Parts → List ℕ
-lineIn p = stuffed nothingSent (row (p .header) ++ (row (p .field) ++ row (p .check))) ++ row (p .ending)
+abbrev pub lineIn : Parts → List ℕ
+lineIn p = lineOf (headerBits p) (dataBits p)

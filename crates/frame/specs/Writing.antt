@@ -1,15 +1,22 @@
 -- What writing bits into a line leaves; no public contract cites it. Assumes nothing.
-use Prim.Native.Nat.{ℕ, _+_, _≤_}
+use Prim.Native.Nat.{ℕ, _+_, _*_, _/_, _%_, _<_}
 use mathlib.Core.Path.{_≡_}
-use mathlib.Core.List.{List}
+use mathlib.Core.List.{List, _++_}
 use lib.ListN.{length}
 use lib.Seq.{sets}
 use Rattle.bits.specs.declared.Run.{Run}
+use Rattle.bits.specs.Rows.{bits}
+use Rattle.bits.specs.Stuffing.{stuffed, runAfterRow}
+use Rattle.frame.specs.Fours.{runOf}
 use Rattle.frame.specs.declared.writing.Spot.{Spot}
 
--- the bits stand at the spot, all else is as it was, and the next spot is behind them, with a run of at most four
-pub record Written (spot : Spot) (sent : List ℕ) (behind : Run) (before line : List ℕ) (next : Spot) : Type 0 where
-  pub line-is : line ≡ sets before (spot .at) sent
-  pub run-is : next .run ≡ behind
-  pub at-is : next .at ≡ spot .at + length sent
-  pub few : next .run .count ≤ 4
+-- a row stands at a place of the line as it is sent behind a run, all else is as it was, and the next spot is behind it
+pub record Written (r : Run) (at : ℕ) (row before line : List ℕ) (next : Spot) : Type 0 where
+  pub line-is : line ≡ sets before at (stuffed r row)
+  pub run-is : runOf (next .last) ≡ runAfterRow r row
+  pub low : next .last < 16
+  pub at-is : next .at ≡ at + length (stuffed r row)
+
+-- what follows the data field: 14 CRC bits with their stuff bits, the last CRC bit, and ten bits 1
+abbrev pub tailRow : Run → ℕ → List ℕ
+tailRow r crc = stuffed r (bits 14 (crc / 2)) ++ bits 11 (crc % 2 * 1024 + 1023)

@@ -1,62 +1,53 @@
-// The CRC of a frame, by long division.
+// The CRC of a frame, four bits at a time: the division is linear, so that what four bits leave can be looked up.
 ghost use mathlib.Core.Path.{_≡_};
-ghost use mathlib.Core.List.{_++_};
-ghost use Prim.Native.Nat.{_*_, _%_, _^_, _<_};
+ghost use mathlib.Core.List.{List, _++_};
+ghost use Prim.Native.Nat.{ℕ, _*_, _%_, _^_, _≤_, _<_};
 ghost use Rattle.bits.specs.Rows.{bits};
-ghost use Rattle.frame.specs.Crc.{divide, remainder, crc};
+ghost use Rattle.frame.specs.Crc.{crc};
+ghost use Rattle.frame.specs.CrcFours.{crcList, crcBehind};
 ghost use Rattle.frame.specs.Header.{dataBytes};
-ghost use Rattle.frame.specs.Parts.{row, Fits};
+use crate::crc_list;
+use crate::fours;
 use crate::header;
-use crate::parts::Part;
 
 // The CRC of a header and the data field that its DLC announces, each the lowest bits of a number.
 pub fn of_frame(header: u64, field: u64) -> u64
     ensures { λ r. ⌜ r ≡ crc (bits 19 header ++ bits (8 * dataBytes (header % 16)) field) ⌝ }
 {
     let n = header::data_bytes(header % 16);
-    let header = Part {
-        number: header,
-        count: 19,
-    };
-    let field = Part {
-        number: field,
-        count: 8 * n,
-    };
-    of(header, field)
+    of(header % 0x80000, field, n)
 }
 
-// The CRC of header and data field.
-pub(crate) fn of(header: Part, field: Part) -> u64
-    requires { ⌜ Fits header × Fits field ⌝ }
-    ensures { λ r. ⌜ (r ≡ crc (row header ++ row field)) × (r < 2 ^ 15) ⌝ }
+// The CRC of a header of 19 bits and a data field of n bytes.
+pub(crate) fn of(header: u64, field: u64, n: usize) -> u64
+    requires { ⌜ (header < 2 ^ 19) × (n ≤ 8) ⌝ }
+    ensures { λ r. ⌜ (r ≡ crc (bits 19 header ++ bits (8 * n) field)) × (r < 2 ^ 15) ⌝ }
 {
-    let zeros = Part {
-        number: 0,
-        count: 15,
-    };
-    bring_down(bring_down(bring_down(0, header), field), zeros)
+    let list = crc_list::list();
+    // A bit 0 before the header changes nothing.
+    let register = bring_down(&list, 0, header, 5);
+    bring_down(&list, register, field, 2 * n)
 }
 
-// The register once the bits of a part are brought down.
-fn bring_down(register: u64, part: Part) -> u64
-    requires { ⌜ (register < 2 ^ 15) × Fits part ⌝ }
-    ensures { λ r. ⌜ (r ≡ remainder register (row part)) × (r < 2 ^ 15) ⌝ }
+// The CRC of a row from that of its front, and the `count` times four bits behind it.
+fn bring_down(list: &[u16; 16], register: u64, number: u64, count: usize) -> u64
+    requires { ⌜ (now list ≡ crcList) × (register < 2 ^ 15) × (count ≤ 16) ⌝ }
+    ensures { λ r. ⌜ ((l : List ℕ) → register ≡ crc l → r ≡ crc (l ++ bits (4 * count) number)) × (r < 2 ^ 15) ⌝ }
 {
-    let number = part.number;
     let mut register = register;
-    let mut left = part.count;
+    let mut left = count;
     while 0 < left {
         left -= 1;
-        register = divide(register, (number >> left) % 2);
+        register = divide(list, register, fours::at(number, left));
     }
     register
 }
 
-// A step of the long division.
-fn divide(register: u64, bit: u64) -> u64
-    requires { ⌜ (register < 2 ^ 15) × (bit < 2) ⌝ }
-    ensures { λ r. ⌜ r ≡ divide register bit ⌝ }
+// Four bits are brought down: the register's highest four go out, and with them what they and the new ones leave comes in.
+fn divide(list: &[u16; 16], register: u64, four: u64) -> u64
+    requires { ⌜ (now list ≡ crcList) × (register < 2 ^ 15) × (four < 16) ⌝ }
+    ensures { λ r. ⌜ (r ≡ crcBehind register four) × (r < 2 ^ 15) ⌝ }
 {
-    let next = register * 2 + bit;
-    (next % 32768) ^ (0x4599 * (next / 32768))
+    let out = (register / 2048) ^ four;
+    (list[out as usize] as u64) ^ (register % 2048 * 16)
 }

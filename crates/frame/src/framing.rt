@@ -1,8 +1,6 @@
 // The frame of an identifier and a payload in its parts.
 ghost use Rattle.frame.specs.Framing.{Gives};
 use crate::header;
-use crate::parts;
-use crate::parts::Part;
 use crate::parts::Parts;
 use field::encoding;
 use field::encoding::Coded;
@@ -22,13 +20,11 @@ pub(crate) fn frame(identifier: u32, payload: &[u8]) -> Framed
         return Framed::Refused(Refusal::Identifier);
     }
     match encoding::code(payload) {
-        Coded::Field(n, number) => {
-            let field = Part {
-                number,
-                count: 8 * n,
-            };
-            Framed::Frame(parts::of(header::of(identifier, n), field))
-        }
+        Coded::Field(n, number) => Framed::Frame(Parts {
+            header: header::of(identifier, n),
+            field: number,
+            n,
+        }),
         Coded::Refused(refusal) => Framed::Refused(refusal),
     }
 }

@@ -1,27 +1,30 @@
-// The length of a frame on the wire. No line is built.
+// The length of a frame on the wire. No line is built, and no data bit is looked at but the last four: none draws a stuff bit.
 ghost use mathlib.Core.Path.{_≡_};
-ghost use Prim.Native.Nat.{_+_, _≤_};
+ghost use Prim.Native.Nat.{_+_, _*_, _≤_};
 ghost use lib.ListN.{length};
-ghost use Rattle.frame.specs.Parts.{FitAll, lineIn};
+ghost use Rattle.frame.specs.Parts.{Fit, lineIn};
+use crate::crc;
 use crate::parts::Parts;
+use crate::sent_list;
 use crate::stuffing;
 
-// How many bits the line of a frame has: those of its parts, and the stuff bits.
+// How many bits the line of a frame has.
 pub(crate) fn of(parts: Parts) -> usize
-    requires { ⌜ FitAll parts ⌝ }
+    requires { ⌜ Fit parts ⌝ }
     ensures { λ r. ⌜ r ≡ length (lineIn parts) ⌝ }
 {
-    let header = stuffing::count(stuffing::NOTHING_SENT, parts.header);
-    let field = stuffing::count(header.run, parts.field);
-    let check = stuffing::count(field.run, parts.check);
-    total(parts, header.drawn, field.drawn, check.drawn)
+    let crc = crc::of(parts.header, parts.field, parts.n);
+    let list = sent_list::list();
+    let header = stuffing::count(&list, stuffing::start(parts.header), parts.header, 4);
+    let last = stuffing::behind(header.last, parts.field, parts.n);
+    let check = stuffing::count(&list, last, stuffing::check(crc), 4);
+    total(parts.n, header.drawn, check.drawn)
 }
 
-// The bits of the parts, and the stuff bits that follow bits of the first three.
-fn total(parts: Parts, header: usize, field: usize, check: usize) -> usize
-    requires { ⌜ FitAll parts × (header ≤ 64) × (field ≤ 64) × (check ≤ 64) ⌝ }
-    ensures { λ r. ⌜ r ≡ parts .header .count + parts .field .count + parts .check .count + parts .ending .count + (header + (field + check)) ⌝ }
+// The 44 bits beside the data, eight for each of n data bytes, and the stuff bits that follow header and CRC bits.
+fn total(n: usize, header: usize, check: usize) -> usize
+    requires { ⌜ (n ≤ 8) × (header ≤ 64) × (check ≤ 64) ⌝ }
+    ensures { λ r. ⌜ r ≡ 44 + 8 * n + (header + check) ⌝ }
 {
-    let sent = parts.header.count + parts.field.count + parts.check.count + parts.ending.count;
-    sent + header + field + check
+    44 + 8 * n + header + check
 }

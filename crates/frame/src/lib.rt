@@ -6,12 +6,15 @@ ghost use lib.ListN.{length};
 ghost use Rattle.refusals.specs.After.{after};
 ghost use Rattle.frame.specs.Answers.{payloadLine, makeAnswer, lengthAnswer, boundsAnswer};
 
+mod byte_list;
 pub mod crc;
-mod ending;
+mod crc_list;
+mod fours;
 mod framing;
 mod header;
 mod length;
 mod parts;
+mod sent_list;
 mod stuffing;
 mod writing;
 
@@ -65,7 +68,9 @@ pub fn frame_bounds(identifier: u32, size: usize) -> Bounds
     }
     let rows = table::rows();
     let n = rows[size].bytes;
-    let head = stuffing::count(stuffing::NOTHING_SENT, header::of(identifier, n));
+    let list = sent_list::list();
+    let header = header::of(identifier, n);
+    let head = stuffing::count(&list, stuffing::start(header), header, 4);
     let least = 44 + 8 * n + head.drawn;
     Bounds::Between(least, least + 4)
 }

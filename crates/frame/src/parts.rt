@@ -1,35 +1,8 @@
-// A frame in its parts, each of them one number.
-ghost use mathlib.Core.Path.{_≡_};
-ghost use Rattle.frame.specs.Line.{lineOf};
-ghost use Rattle.frame.specs.Parts.{row, Fits, FitAll, lineIn};
-use crate::crc;
-use crate::ending;
-
-// The `count` lowest bits of `number`, the highest of them sent first.
-pub(crate) struct Part {
-    pub number: u64,
-    pub count: usize,
-}
-
+// A frame before it is stuffed: what its CRC and its line follow from.
 pub(crate) struct Parts {
-    pub header: Part,
-    pub field: Part,
-    // The CRC bits that a stuff bit may follow.
-    pub check: Part,
-    // What is never stuffed.
-    pub ending: Part,
-}
-
-// The parts of the frame of a header and a data field.
-pub(crate) fn of(header: Part, field: Part) -> Parts
-    requires { ⌜ Fits header × Fits field ⌝ }
-    ensures { λ r. ⌜ (lineIn r ≡ lineOf (row header) (row field)) × FitAll r ⌝ }
-{
-    let crc = crc::of(header, field);
-    Parts {
-        header,
-        field,
-        check: ending::stuffed(crc),
-        ending: ending::plain(crc),
-    }
+    // The header's 19 bits, and those of the data field, which are the lowest of a number.
+    pub header: u64,
+    pub field: u64,
+    // How many bytes the data field has.
+    pub n: usize,
 }

@@ -1,58 +1,63 @@
-// Stuffing: the run of equal bits that ends what was sent, and the stuff bits that a part draws.
+// Stuffing, four bits at a time: the four bits sent last tell the run that ends them, which is of at most four.
 ghost use mathlib.Core.Path.{_≡_};
-ghost use Prim.Native.Nat.{_≤_, _<_};
-ghost use Rattle.bits.specs.Stuffing.{runAfter, stuffCount, runAfterRow};
-ghost use Rattle.frame.specs.Parts.{row, Fits};
-use crate::parts::Part;
-use bits::Run;
+ghost use Prim.Native.Nat.{_+_, _*_, _/_, _^_, _≤_, _<_};
+ghost use Rattle.bits.specs.Rows.{bits};
+ghost use Rattle.bits.specs.Stuffing.{stuffCount, runAfterRow};
+ghost use Rattle.frame.specs.Fours.{runOf, sentOf, sentList, Counts, quietCheck};
+use crate::fours;
 
-// The run that a part leaves, and how many stuff bits follow its bits.
+// The four bits sent last, and how many stuff bits were among what was sent.
 pub(crate) struct Counted {
-    pub run: Run,
+    pub last: u64,
     pub drawn: usize,
 }
 
-// No run reaches in from before the start of frame.
-pub(crate) const NOTHING_SENT: Run = Run { bit: 0, count: 0 };
-
-// The run once a bit is sent and, after five equal bits, the stuff bit. That one is of the other value and starts the next run, so
-// it was sent exactly when the run's bit is not the bit itself.
-pub(crate) fn run_after(run: Run, bit: u8) -> Run
-    requires { ⌜ (run .count ≤ 4) × (bit < 2) ⌝ }
-    ensures { λ r. ⌜ (r ≡ runAfter run bit) × (r .count ≤ 4) ⌝ }
+// Four bits as they are sent behind those sent last, with 32 added where a stuff bit is among them.
+pub(crate) fn sent(list: &[u8; 256], last: u64, four: u64) -> u64
+    requires { ⌜ (now list ≡ sentList) × (last < 16) × (four < 16) ⌝ }
+    ensures { λ r. ⌜ r ≡ sentOf last four ⌝ }
 {
-    if bit != run.bit {
-        return Run { bit, count: 1 };
-    }
-    if run.count == 4 {
-        return Run {
-            bit: 1 - bit,
-            count: 1,
-        };
-    }
-    Run {
-        bit,
-        count: run.count + 1,
-    }
+    list[(last * 16 + four) as usize] as u64
 }
 
-// Counts the stuff bits that follow the bits of a part.
-pub(crate) fn count(run: Run, part: Part) -> Counted
-    requires { ⌜ (run .count ≤ 4) × Fits part ⌝ }
-    ensures after { λ r. ⌜ (r .run ≡ runAfterRow run (row part)) × (r .run .count ≤ 4) ⌝ }
-    ensures counted { λ r. ⌜ (r .drawn ≡ stuffCount run (row part)) × (r .drawn ≤ 64) ⌝ }
+// Counts the stuff bits that follow the lowest `count` times four bits of a number.
+pub(crate) fn count(list: &[u8; 256], last: u64, number: u64, count: usize) -> Counted
+    requires { ⌜ (now list ≡ sentList) × (last < 16) × (count ≤ 4) ⌝ }
+    ensures { λ r. ⌜ Counts (runOf last) (bits (4 * count) number) r ⌝ }
 {
-    let number = part.number;
-    let mut run = run;
+    let mut last = last;
     let mut drawn: usize = 0;
-    let mut left = part.count;
+    let mut left = count;
     while 0 < left {
         left -= 1;
-        let bit = ((number >> left) % 2) as u8;
-        run = run_after(run, bit);
-        if run.bit != bit {
-            drawn += 1;
-        }
+        let four = fours::at(number, left);
+        let sent = sent(list, last, four);
+        last = sent % 16;
+        drawn += (sent / 32) as usize;
     }
-    Counted { run, drawn }
+    Counted { last, drawn }
+}
+
+// The four bits that stand before the fourth of a header, whose first three draw no stuff bit; before them, as if a 1 had been sent.
+pub(crate) fn start(header: u64) -> u64
+    requires { ⌜ header < 2 ^ 18 ⌝ }
+    ensures { λ r. ⌜ (r ≡ 8 + header / 2 ^ 16) × (r < 16) ⌝ }
+{
+    8 + header / 0x10000
+}
+
+// The four bits sent last behind a data field that draws no stuff bit, `last` being those before it.
+pub(crate) fn behind(last: u64, field: u64, n: usize) -> u64
+    requires { ⌜ (last < 16) × (stuffCount (runOf last) (bits (8 * n) field) ≡ 0) ⌝ }
+    ensures { λ r. ⌜ (runOf r ≡ runAfterRow (runOf last) (bits (8 * n) field)) × (r < 16) ⌝ }
+{
+    if n == 0 { last } else { field % 16 }
+}
+
+// The 14 CRC bits that a stuff bit may follow, and behind them two that draw none: the last of them negated, and it itself.
+pub(crate) fn check(crc: u64) -> u64
+    requires { ⌜ crc < 2 ^ 15 ⌝ }
+    ensures { λ r. ⌜ r ≡ quietCheck crc ⌝ }
+{
+    crc / 2 * 4 + 2 - crc / 2 % 2
 }

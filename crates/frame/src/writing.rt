@@ -1,77 +1,146 @@
 // Writing the bits of a frame into a line, one byte for each bit.
 ghost use mathlib.Core.Path.{_≡_};
-ghost use mathlib.Core.List.{_∷_, _++_};
-ghost use Prim.Native.Nat.{_+_, _≤_, _<_};
+ghost use mathlib.Core.List.{_++_};
+ghost use Prim.Native.Nat.{_+_, _*_, _%_, _^_, _≤_, _<_};
 ghost use lib.ListN.{length, drop};
 ghost use lib.Seq.{sets};
-ghost use Rattle.bits.specs.Stuffing.{stuffAfter, runAfter, stuffed, runAfterRow};
-ghost use Rattle.frame.specs.Parts.{row, Fits, FitAll, lineIn};
-ghost use Rattle.frame.specs.Writing.{Written};
-use crate::parts::Part;
+ghost use Rattle.bits.specs.Rows.{bits};
+ghost use Rattle.bits.specs.Stuffing.{nothingSent, stuffed, stuffCount};
+ghost use Rattle.frame.specs.Fours.{runOf, sentList, byteList};
+ghost use Rattle.frame.specs.Parts.{Fit, lineIn};
+ghost use Rattle.frame.specs.Writing.{Written, tailRow};
+use crate::byte_list;
+use crate::crc;
+use crate::fours;
 use crate::parts::Parts;
+use crate::sent_list;
 use crate::stuffing;
-use bits::Run;
 
-// Where the next bit goes, and the run that ends the line before it.
+// Where the next bit goes, and the four bits that were sent before it.
 pub(crate) struct Spot {
-    pub run: Run,
+    pub last: u64,
     pub at: usize,
 }
 
 // Writes the line of a frame; its length.
 pub(crate) fn whole(parts: Parts, line: &mut [u8]) -> usize
-    requires { ⌜ FitAll parts × (length (lineIn parts) ≤ length (now line)) ⌝ }
+    requires { ⌜ Fit parts × (length (lineIn parts) ≤ length (now line)) ⌝ }
     ensures length { λ r. ⌜ r ≡ length (lineIn parts) ⌝ }
     ensures memory { λ r. ⌜ now (line .exit) ≡ lineIn parts ++ drop (length (lineIn parts)) (now (line .entry)) ⌝ }
 {
-    let start = Spot {
-        run: stuffing::NOTHING_SENT,
-        at: 0,
-    };
-    let header = stuffed(parts.header, start, line);
-    let field = stuffed(parts.field, header, line);
-    let check = stuffed(parts.check, field, line);
-    plain(parts.ending, check.at, line)
+    let crc = crc::of(parts.header, parts.field, parts.n);
+    let list = sent_list::list();
+    let bytes = byte_list::list();
+    let behind_header = header(&list, &bytes, parts.header, line);
+    let behind_field = field(&bytes, parts.field, parts.n, behind_header, line);
+    tail(&list, &bytes, crc, behind_field, line)
 }
 
-// Writes the bits of a part, with their stuff bits.
-fn stuffed(part: Part, spot: Spot, line: &mut [u8]) -> Spot
-    requires { ⌜ Fits part × (spot .run .count ≤ 4) × (spot .at + length (stuffed (spot .run) (row part)) ≤ length (now line)) ⌝ }
-    ensures { λ r. ⌜ Written spot (stuffed (spot .run) (row part)) (runAfterRow (spot .run) (row part)) (now (line .entry)) (now (line .exit)) r ⌝ }
+// Writes a header. Its first three bits draw no stuff bit.
+fn header(list: &[u8; 256], bytes: &[u32; 16], header: u64, line: &mut [u8]) -> Spot
+    requires { ⌜ (now list ≡ sentList) × (now bytes ≡ byteList) × (header < 2 ^ 18) × (length (stuffed nothingSent (bits 19 header)) ≤ length (now line)) ⌝ }
+    ensures { λ r. ⌜ Written nothingSent 0 (bits 19 header) (now (line .entry)) (now (line .exit)) r ⌝ }
 {
-    let number = part.number;
+    let at = plain(header / 0x10000, 3, 0, line);
+    let spot = Spot {
+        last: stuffing::start(header),
+        at,
+    };
+    stuffed(list, bytes, header, 4, spot, line)
+}
+
+// Writes a data field, which draws no stuff bit.
+fn field(bytes: &[u32; 16], field: u64, n: usize, spot: Spot, line: &mut [u8]) -> Spot
+    requires { ⌜ (now bytes ≡ byteList) × (n ≤ 8) × (spot .last < 16) × (stuffCount (runOf (spot .last)) (bits (8 * n) field) ≡ 0) × (spot .at + 8 * n ≤ length (now line)) ⌝ }
+    ensures { λ r. ⌜ Written (runOf (spot .last)) (spot .at) (bits (8 * n) field) (now (line .entry)) (now (line .exit)) r ⌝ }
+{
+    let last = stuffing::behind(spot.last, field, n);
+    let at = plain_fours(bytes, field, 2 * n, spot.at, line);
+    Spot { last, at }
+}
+
+// Writes what follows the data field, the CRC and the ten bits that are never stuffed; the length of the line. Nothing is inserted
+// behind the last CRC bit, and the two bits that go out behind the one before it are written over.
+fn tail(list: &[u8; 256], bytes: &[u32; 16], crc: u64, spot: Spot, line: &mut [u8]) -> usize
+    requires { ⌜ (now list ≡ sentList) × (now bytes ≡ byteList) × (crc < 2 ^ 15) × (spot .last < 16) × (spot .at + length (tailRow (runOf (spot .last)) crc) ≤ length (now line)) ⌝ }
+    ensures { λ r. ⌜ (now (line .exit) ≡ sets (now (line .entry)) (spot .at) (tailRow (runOf (spot .last)) crc)) × (r ≡ spot .at + length (tailRow (runOf (spot .last)) crc)) ⌝ }
+{
+    let check = stuffed(list, bytes, stuffing::check(crc), 4, spot, line);
+    plain(crc % 2 * 1024 + 1023, 11, check.at - 2, line)
+}
+
+// Writes the lowest `count` times four bits of a number, with their stuff bits.
+fn stuffed(
+    list: &[u8; 256],
+    bytes: &[u32; 16],
+    number: u64,
+    count: usize,
+    spot: Spot,
+    line: &mut [u8],
+) -> Spot
+    requires { ⌜ (now list ≡ sentList) × (now bytes ≡ byteList) × (count ≤ 4) × (spot .last < 16) × (spot .at + length (stuffed (runOf (spot .last)) (bits (4 * count) number)) ≤ length (now line)) ⌝ }
+    ensures { λ r. ⌜ Written (runOf (spot .last)) (spot .at) (bits (4 * count) number) (now (line .entry)) (now (line .exit)) r ⌝ }
+{
     let mut spot = spot;
-    let mut left = part.count;
+    let mut left = count;
     while 0 < left {
         left -= 1;
-        spot = one(((number >> left) % 2) as u8, spot, line);
+        spot = four(list, bytes, fours::at(number, left), spot, line);
     }
     spot
 }
 
-// Writes a bit, and the stuff bit that follows five equal bits.
-fn one(bit: u8, spot: Spot, line: &mut [u8]) -> Spot
-    requires { ⌜ (bit < 2) × (spot .run .count ≤ 4) × (spot .at + length (bit ∷ stuffAfter (spot .run) bit) ≤ length (now line)) ⌝ }
-    ensures { λ r. ⌜ Written spot (bit ∷ stuffAfter (spot .run) bit) (runAfter (spot .run) bit) (now (line .entry)) (now (line .exit)) r ⌝ }
+// Writes four bits, and the stuff bit if one of them draws it.
+fn four(list: &[u8; 256], bytes: &[u32; 16], four: u64, spot: Spot, line: &mut [u8]) -> Spot
+    requires { ⌜ (now list ≡ sentList) × (now bytes ≡ byteList) × (four < 16) × (spot .last < 16) × (spot .at + length (stuffed (runOf (spot .last)) (bits 4 four)) ≤ length (now line)) ⌝ }
+    ensures { λ r. ⌜ Written (runOf (spot .last)) (spot .at) (bits 4 four) (now (line .entry)) (now (line .exit)) r ⌝ }
 {
+    let sent = stuffing::sent(list, spot.last, four);
     let at = spot.at;
-    let run = stuffing::run_after(spot.run, bit);
-    line[at] = bit;
-    if run.bit == bit {
-        return Spot { run, at: at + 1 };
+    let last = sent % 16;
+    if sent < 32 {
+        let at = plain_four(bytes, last, at, line);
+        return Spot { last, at };
     }
-    line[at + 1] = run.bit;
-    Spot { run, at: at + 2 }
+    line[at] = (sent / 16 % 2) as u8;
+    let at = plain_four(bytes, last, at + 1, line);
+    Spot { last, at }
 }
 
-// Writes the bits of a part as they are; the place behind them.
-fn plain(part: Part, at: usize, line: &mut [u8]) -> usize
-    requires { ⌜ Fits part × (at + part .count ≤ length (now line)) ⌝ }
-    ensures { λ r. ⌜ (now (line .exit) ≡ sets (now (line .entry)) at (row part)) × (r ≡ at + part .count) ⌝ }
+// Writes the lowest `count` times four bits of a number as they are; the place behind them.
+fn plain_fours(bytes: &[u32; 16], number: u64, count: usize, at: usize, line: &mut [u8]) -> usize
+    requires { ⌜ (now bytes ≡ byteList) × (count ≤ 16) × (at + 4 * count ≤ length (now line)) ⌝ }
+    ensures { λ r. ⌜ (now (line .exit) ≡ sets (now (line .entry)) at (bits (4 * count) number)) × (r ≡ at + 4 * count) ⌝ }
 {
-    let number = part.number;
     let mut at = at;
-    let mut left = part.count;
+    let mut left = count;
+    while 0 < left {
+        left -= 1;
+        at = plain_four(bytes, fours::at(number, left), at, line);
+    }
+    at
+}
+
+// Writes four bits as they are, at once; the place behind them.
+fn plain_four(bytes: &[u32; 16], four: u64, at: usize, line: &mut [u8]) -> usize
+    requires { ⌜ (now bytes ≡ byteList) × (four < 16) × (at + 4 ≤ length (now line)) ⌝ }
+    ensures { λ r. ⌜ (now (line .exit) ≡ sets (now (line .entry)) at (bits 4 four)) × (r ≡ at + 4) ⌝ }
+{
+    let four = bytes[four as usize];
+    line[at] = (four % 256) as u8;
+    line[at + 1] = ((four >> 8) % 256) as u8;
+    line[at + 2] = ((four >> 16) % 256) as u8;
+    line[at + 3] = ((four >> 24) % 256) as u8;
+    at + 4
+}
+
+// Writes the lowest `count` bits of a number as they are; the place behind them.
+fn plain(number: u64, count: usize, at: usize, line: &mut [u8]) -> usize
+    requires { ⌜ (count ≤ 64) × (at + count ≤ length (now line)) ⌝ }
+    ensures { λ r. ⌜ (now (line .exit) ≡ sets (now (line .entry)) at (bits count number)) × (r ≡ at + count) ⌝ }
+{
+    let mut at = at;
+    let mut left = count;
     while 0 < left {
         left -= 1;
         line[at] = ((number >> left) % 2) as u8;

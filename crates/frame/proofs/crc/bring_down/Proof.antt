@@ -1,48 +1,70 @@
--- `frame::crc::bring_down` meets its contract. The invariant: the bits that are left, brought down to the register so far, lead where
--- the whole part leads. Assumes nothing.
-use mathlib.Core.Path.{_≡_, refl, _∙_}
-use Prim.Native.Nat.{_^_, _≤_, _<_}
+-- `frame::crc::bring_down` meets its contract. The invariant: the register is the CRC of the front and of the bits brought down, so
+-- that with those that are left it leads to the CRC of all. Assumes nothing.
+use mathlib.Core.Path.{_≡_, refl, sym, ap, ap₂, _∙_}
+use mathlib.Core.List.{List, _++_, append-assoc, append-nil}
+use Prim.Native.Nat.{ℕ, _-_, _*_, _^_, _≤_, _<_}
+use native.Mathlib.Nat.{mod-lt}
 use native.Mathlib.Omega.{arith}
+use lib.Dec.{lit<}
 use Rattle.bits.specs.Rows.{bits}
-use Rattle.frame.specs.Crc.{remainder}
-use Rattle.frame.proofs.Division.{divide-below, remainder-next}
+use Rattle.frame.specs.Crc.{crc}
+use Rattle.frame.specs.CrcFours.{crcBehind}
+use Rattle.frame.specs.Fours.{fourAt}
+use Rattle.frame.proofs.CrcFours.{crc-four}
+use Rattle.frame.proofs.FourBits.{fours-next, fours-none}
 use Rattle.frame.proofs.crc.bring_down.Statement.{statement}
 use Rattle.frame.proofs.crc.bring_down.Tie as tie
 
 abbrev Inv-loop : tie.InvT-loop
-Inv-loop register number register₀ left₀ register' left =
-    (left ≤ left₀) × (register' < 2 ^ 15) × (remainder register' (bits left number) ≡ remainder register₀ (bits left₀ number))
+Inv-loop list register number count register₀ left₀ register' left =
+    (left ≤ left₀) × (register' < 2 ^ 15)
+    × ((l : List ℕ) → register₀ ≡ crc l →
+    (m : List ℕ) × (register' ≡ crc m) × (m ++ bits (4 * left) number ≡ l ++ bits (4 * left₀) number))
 
 abbrev μ-loop : tie.MeasureT-loop
-μ-loop register number register₀ left₀ register' left = left
+μ-loop list register number count register₀ left₀ register' left = left
 
 loop-holds : tie.Need-loop-holds Inv-loop μ-loop
-loop-holds c = (omega arith, omega arith, refl)
+loop-holds c = (omega arith, omega arith, λ l e. (l, e, refl))
 
 sub-left : tie.Need-sub-left Inv-loop μ-loop
 sub-left c = omega arith
 
-shr-divide : tie.Need-shr-divide Inv-loop μ-loop
-shr-divide c = omega arith
+at-requires : tie.Need-at-requires Inv-loop μ-loop
+at-requires c κs = omega arith
 
 divide-requires : tie.Need-divide-requires Inv-loop μ-loop
-divide-requires c κs = omega arith
+divide-requires c κs = (c .before .before .before .pre .0, omega arith, c .at .ensures .1)
 
 loop-less : tie.Need-loop-less Inv-loop μ-loop
 loop-less c = omega arith
 
 loop-again : tie.Need-loop-again Inv-loop μ-loop
 loop-again c =
-    let loop = c .before .before .loop in
-    let number = c .before .before .before .args .part .number in
-    rw (c .divide .ensures)
-    (omega arith, divide-below _ _, remainder-next (loop .register) (loop .left) number (omega arith) ∙ loop .inv .2)
+    let loop = c .before .before .before .loop in
+    let number = c .before .before .before .before .args .number in
+    let four = fourAt number (loop .left - 1) in
+    let rest = bits (4 * (loop .left - 1)) number in (
+      omega arith,
+      c .divide .ensures .1,
+      λ l e.
+          let front = loop .inv .2 l e in
+          let m = front .0 in (
+            m ++ bits 4 four,
+            c .divide .ensures .0 ∙ ap₂ crcBehind (front .1) (c .before .at .ensures .0) ∙ sym (crc-four m four (mod-lt _ (lit< tt))),
+            append-assoc m (bits 4 four) rest ∙ ap (λ (k : List ℕ). m ++ k) (sym (fours-next (loop .left) number (omega arith))) ∙ front .2,
+          ),
+    )
 
 returns : tie.Need-returns Inv-loop μ-loop
-unfolding remainder bits
 returns c =
-    let e : c .before .loop .left ≡ 0 = omega arith in
-    (rw e at (c .before .loop .inv .2), omega arith)
+    let loop = c .before .loop in
+    let none = fours-none (loop .left) (c .before .before .args .number) (omega arith) in (
+      λ l e.
+          let front = loop .inv .2 l e in
+          front .1 ∙ ap crc (sym (append-nil (front .0)) ∙ ap (λ (k : List ℕ). front .0 ++ k) (sym none) ∙ front .2),
+      loop .inv .1,
+    )
 
 pub bring-down-spec : {M : Type 1} → statement M
 bring-down-spec =
@@ -52,7 +74,7 @@ bring-down-spec =
     μ-loop
     loop-holds
     sub-left
-    shr-divide
+    at-requires
     divide-requires
     loop-less
     loop-again

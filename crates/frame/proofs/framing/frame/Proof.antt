@@ -8,7 +8,7 @@ use Rattle.field.proofs.Coded.{IsField, coded-field, coded-refused}
 use Rattle.bits.proofs.Below.{below-at}
 use Rattle.frame.proofs.Demand3.{room-enough}
 use Rattle.frame.proofs.FrameAnswers.{length-identifier, length-long, make-identifier, make-long}
-use Rattle.frame.proofs.PayloadLine.{coded-few, coded-line}
+use Rattle.frame.proofs.PayloadLine.{coded-few, coded-quiet, coded-line}
 use Rattle.frame.proofs.framing.frame.Statement.{statement}
 use Rattle.frame.proofs.framing.frame.Tie as tie
 
@@ -28,30 +28,25 @@ found c = coded-field _ _ _ (sym (c .before .before .code .ensures) ∙ c .n .gi
 few : (c : tie.After-n) → c .n .given .0 .0 ≤ 8
 few c = coded-few _ _ _ (found c)
 
-mul-t11 : tie.Need-mul-t11
-mul-t11 c = omega (arith, few (c .before))
-
 of-requires : tie.Need-of-requires
 of-requires c κs = (omega arith, omega (arith, few (c .before)))
-
-of-requires-2 : tie.Need-of-requires-2
-of-requires-2 c κs = (omega arith, omega (arith, few (c .before .before)))
 
 enum-known-refusal : tie.Need-enum-known-refusal
 enum-known-refusal c = search needs
 
 returns-2 : tie.Need-returns-2
 returns-2 c =
-    let coded = c .before .before .before in
+    let coded = c .before .before in
     let payload = coded .before .before .before .before .before .args .payload .now in
     let bytes = below-at 256 payload (λ i. omega (arith, coded .before .before .before .before .shared-slice-known .given i)) in
-    let line = c .of2 .ensures .0 ∙ coded-line _ payload _ _ _ (found coded) (c .before .of .ensures .0) in
+    let header = c .of .ensures in
+    let line = coded-line _ payload _ _ _ (found coded) (header .0) in
     record {
       allowed = coded .before .before .before .if1 .left;
       short = found coded .short;
       line-is = line;
       enough = rw line (room-enough _ payload bytes (found coded .short));
-      fit = c .of2 .ensures .1;
+      fit = record { starts = header .1; few = few coded; quiet = coded-quiet _ payload _ _ _ (found coded) (header .0) bytes };
     }
 
 returns-3 : tie.Need-returns-3
@@ -68,9 +63,7 @@ frame-spec =
     returns
     code-requires
     enum-known-n
-    mul-t11
     of-requires
-    of-requires-2
     enum-known-refusal
     returns-2
     returns-3)

@@ -12,12 +12,12 @@ use Rattle.frame.proofs.writing.plain.Statement.{statement}
 use Rattle.frame.proofs.writing.plain.Tie as tie
 
 abbrev Inv-loop : tie.InvT-loop
-Inv-loop at line₀ number at₀ left₀ line at' left =
+Inv-loop number count at line₀ at₀ left₀ line at' left =
     (left ≤ left₀) × (at' + left ≡ at₀ + left₀) × (length line ≡ length line₀)
     × (sets line₀ at₀ (bits left₀ number) ≡ sets line at' (bits left number))
 
 abbrev μ-loop : tie.MeasureT-loop
-μ-loop at line₀ number at₀ left₀ line at' left = left
+μ-loop number count at line₀ at₀ left₀ line at' left = left
 
 loop-holds : tie.Need-loop-holds Inv-loop μ-loop
 loop-holds c = (omega arith, refl, refl, refl)
@@ -42,7 +42,7 @@ loop-less c = omega arith
 
 loop-again : tie.Need-loop-again Inv-loop μ-loop
 loop-again c =
-    let number = c .before .before .args .part .number in
+    let number = c .before .before .args .number in
     let left = c .before .loop .left in
     let h : 0 < left = omega arith in
     (omega arith, omega arith, simp length-set (c .before .loop .inv .2), c .before .loop .inv .3 ∙ rw (bits-next left number h, add-one) refl)

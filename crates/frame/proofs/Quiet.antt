@@ -1,0 +1,106 @@
+-- Rows that draw no stuff bit, where the code makes use of them. Assumes nothing.
+--     quiet-sent       such a row goes out as it is
+--     quiet-field      the run that a field leaves is that of its last four bits
+--     start-header     a header's stuff bits are those of its last 16 bits, behind the first three
+--     check-drawn      the two bits behind the CRC's fourteen draw none; check-sent what goes out
+use mathlib.Core.Path.{_≡_, refl, sym, ap, ap₂, _∙_}
+use mathlib.Core.List.{List, [], _∷_, _++_}
+use Prim.Native.Nat.{ℕ, zero, suc, _+_, _-_, _*_, _/_, _%_, _^_, _≤_, _<_}
+use native.Mathlib.Nat.{zero-add}
+use native.Mathlib.Omega.{arith}
+use lib.Dec.{lit<}
+use lib.ListN.{length}
+use Rattle.bits.specs.declared.Run.{Run}
+use Rattle.bits.specs.Rows.{bits}
+use Rattle.bits.specs.Stuffing.{nothingSent, stuffAfter, runAfter, stuffed, stuffCount, runAfterRow}
+use Rattle.bits.proofs.Calm.{other-calm}
+use Rattle.bits.proofs.Rows.{bits-below, bits-split, bits-low, bits-join}
+use Rattle.bits.proofs.Stuffing.{stuffed-append, stuffCount-append, runAfterRow-append, stuff-weight, run-bit}
+use Rattle.frame.specs.Fours.{runOf, quietCheck}
+use Rattle.frame.proofs.FourBits.{start-row, start-quiet, start-run, quiet-run}
+
+-- a bit that draws none
+none-after : (l : List ℕ) → length l ≡ 0 → l ≡ []
+none-after [] e = refl
+none-after (x ∷ l) e = absurd (omega arith)
+
+pub quiet-sent : (r : Run) (l : List ℕ) → stuffCount r l ≡ 0 → stuffed r l ≡ l
+unfolding stuffCount stuffed
+quiet-sent r [] e = refl
+quiet-sent r (b ∷ l) e =
+    let none = none-after (stuffAfter r b) (omega arith) in
+    rw none (ap (λ (m : List ℕ). b ∷ m) (quiet-sent (runAfter r b) l (omega arith)))
+
+-- a run that four bits end
+of-four : (last : ℕ) → (runOf last .bit < 2) × (runOf last .count ≤ 4)
+of-four last = (run-bit nothingSent (bits 4 last) (lit< tt) (bits-below 4 last), stuff-weight nothingSent (bits 4 last) (omega arith) .1)
+
+pub quiet-field : (last n v : ℕ) → 0 < n → stuffCount (runOf last) (bits (8 * n) v) ≡ 0
+    → runOf (v % 16) ≡ runAfterRow (runOf last) (bits (8 * n) v)
+quiet-field last n v some none =
+    let k : ℕ = 8 * n - 4 in
+    let front : List ℕ = bits k (v / 2 ^ 4) in
+    let few : 8 * n ≡ k + 4 = omega arith in
+    let parts : bits (8 * n) v ≡ front ++ bits 4 v = ap (λ (m : ℕ). bits m v) few ∙ bits-split k 4 v in
+    let before : Run = runAfterRow (runOf last) front in
+    let r = of-four last in
+    let quiet : stuffCount before (bits 4 v) ≡ 0 = omega (arith, ap (stuffCount (runOf last)) parts, stuffCount-append (runOf last) front (bits 4 v)) in
+    let low : stuffCount before (bits 4 (v % 16)) ≡ 0 = ap (stuffCount before) (bits-low 4 v) ∙ quiet in
+    let bit = run-bit (runOf last) front (r .0) (bits-below k (v / 2 ^ 4)) in
+    let count = stuff-weight (runOf last) front (r .1) .1 in
+    sym (quiet-run before (v % 16) bit count (omega arith) low)
+    ∙ ap (runAfterRow before) (bits-low 4 v) ∙ sym (runAfterRow-append (runOf last) front (bits 4 v))
+    ∙ ap (runAfterRow (runOf last)) (sym parts)
+
+module _ (h : ℕ) (starts : h < 2 ^ 18) where
+  split : bits 19 h ≡ bits 3 (h / 2 ^ 16) ++ bits 16 h
+  split = bits-split 3 16 h
+
+  first : h / 2 ^ 16 < 4
+  first = omega arith
+
+  pub header-drawn : stuffCount nothingSent (bits 19 h) ≡ stuffCount (runOf (8 + h / 2 ^ 16)) (bits 16 h)
+  header-drawn =
+      ap (stuffCount nothingSent) split ∙ stuffCount-append nothingSent _ _
+      ∙ ap₂ (λ (n : ℕ) (r : Run). n + stuffCount r (bits 16 h)) (start-quiet _ first) (start-run _ first) ∙ zero-add _
+
+  pub header-run-is : runAfterRow nothingSent (bits 19 h) ≡ runAfterRow (runOf (8 + h / 2 ^ 16)) (bits 16 h)
+  header-run-is =
+      ap (runAfterRow nothingSent) split ∙ runAfterRow-append nothingSent _ _ ∙ ap (λ (r : Run). runAfterRow r (bits 16 h)) (start-run _ first)
+
+  pub header-sent : stuffed nothingSent (bits 19 h) ≡ bits 3 (h / 2 ^ 16) ++ stuffed (runOf (8 + h / 2 ^ 16)) (bits 16 h)
+  header-sent =
+      ap (stuffed nothingSent) split ∙ stuffed-append nothingSent _ _
+      ∙ ap₂ (λ (l : List ℕ) (r : Run). l ++ stuffed r (bits 16 h)) (start-row _ first) (start-run _ first)
+
+-- a bit, its other and the bit again: the last two draw none
+pair-quiet : (r : Run) (b : ℕ) → b < 2 → stuffCount (runAfter r b) (bits 2 (2 - b)) ≡ 0
+unfolding bits stuffCount
+pair-quiet r zero h =
+    omega (arith, other-calm r 0 (lit< tt) .no-stuff, other-calm (runAfter r 0) 1 (lit< tt) .no-stuff)
+pair-quiet r (suc zero) h =
+    omega (arith, other-calm r 1 (lit< tt) .no-stuff, other-calm (runAfter r 1) 0 (lit< tt) .no-stuff)
+pair-quiet r (suc (suc b)) h = absurd (omega arith)
+
+module _ (r : Run) (crc : ℕ) where
+  check-split : bits 16 (quietCheck crc) ≡ bits 14 (crc / 2) ++ bits 2 (2 - crc / 2 % 2)
+  check-split =
+      let e : quietCheck crc ≡ crc / 2 * 2 ^ 2 + (2 - crc / 2 % 2) = omega arith in
+      ap (bits 16) e ∙ bits-join 14 2 (crc / 2) (2 - crc / 2 % 2) (omega arith)
+
+  pair-draws-none : stuffCount (runAfterRow r (bits 14 (crc / 2))) (bits 2 (2 - crc / 2 % 2)) ≡ 0
+  unfolding bits runAfterRow
+  pair-draws-none =
+      let c : ℕ = crc / 2 in
+      let last : c / 2 ^ 0 % 2 ≡ c % 2 = omega arith in
+      ap (λ (q : Run). stuffCount q (bits 2 (2 - c % 2)))
+      (ap (runAfterRow r) (bits-split 13 1 c) ∙ runAfterRow-append r (bits 13 (c / 2)) (bits 1 c) ∙ ap (runAfter (runAfterRow r (bits 13 (c / 2)))) last)
+      ∙ pair-quiet (runAfterRow r (bits 13 (c / 2))) (c % 2) (omega arith)
+
+  pub check-drawn : stuffCount r (bits 16 (quietCheck crc)) ≡ stuffCount r (bits 14 (crc / 2))
+  check-drawn = omega (arith, ap (stuffCount r) check-split, stuffCount-append r (bits 14 (crc / 2)) (bits 2 (2 - crc / 2 % 2)), pair-draws-none)
+
+  pub check-sent : stuffed r (bits 16 (quietCheck crc)) ≡ stuffed r (bits 14 (crc / 2)) ++ bits 2 (2 - crc / 2 % 2)
+  check-sent =
+      ap (stuffed r) check-split ∙ stuffed-append r (bits 14 (crc / 2)) (bits 2 (2 - crc / 2 % 2))
+      ∙ ap (λ (l : List ℕ). stuffed r (bits 14 (crc / 2)) ++ l) (quiet-sent _ _ pair-draws-none)
