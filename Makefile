@@ -1,5 +1,5 @@
 # Prushgoli. `make test` is the whole gate, `make run` the program trace on an example, `make lib` the library for C.
-.PHONY: help test evidence can-fail run readable lib install clean
+.PHONY: help test evidence bench can-fail run readable lib install clean
 .DELETE_ON_ERROR:
 # Two runs of rt would share target/.
 .NOTPARALLEL:
@@ -13,6 +13,7 @@ help:
 	@echo 'make install [PREFIX=/usr/local] [DESTDIR=]   install these three'
 	@echo 'make test   run every test and prove every crate from nothing; the last line is: N passed, 0 failed'
 	@echo 'make evidence   a page of runs for the inspector, build/evidence/index.html; runs the gate where its record is old'
+	@echo 'make bench  count the instructions of each call, beside those of a plain C implementation'
 	@echo 'make can-fail   show that the tests notice faults'
 	@echo 'make clean  remove build/; what rt has proved stays'
 
@@ -57,6 +58,10 @@ evidence: build/gate/end lib
 build/gate/end: $(filter-out %.trace,$(shell evidence/tested folders))
 	@echo 'make evidence: there is no record of the gate on these sources; it runs first, thirteen to twenty-five minutes' >&2
 	@$(MAKE) test
+
+# Not part of the gate: it measures.
+bench: lib target/bin/trace
+	@bench/run
 
 can-fail: lib target/bin/trace
 	tests/compare/can-fail

@@ -1,0 +1,116 @@
+/* The counted calls: on each content every program is asked the same, between two marks. What is executed there beside
+ * the call is known from a program of one instruction. The plain C and the archive must do the same. */
+#define _DEFAULT_SOURCE
+#include <prushgoli.h>
+#include <stdio.h>
+#include <stdlib.h>
+#include <string.h>
+#include <unistd.h>
+
+#include "mark.h"
+#include "plain.h"
+#include "random.h"
+
+enum { CONTENTS = 1000, LENT = 128 };
+enum call { ENCODE, DECODE, FRAME_LENGTH, MAKE_FRAME, READ_LINE };
+
+typedef uint64_t from_bytes(const uint8_t *, size_t, uint8_t *, size_t);
+typedef uint64_t length_of(uint32_t, const uint8_t *, size_t);
+typedef uint64_t line_of(uint32_t, const uint8_t *, size_t, uint8_t *, size_t);
+
+struct program {
+    from_bytes *encode, *decode, *read_line;
+    length_of *frame_length;
+    line_of *make_frame;
+};
+
+/* One instruction, and 202. */
+void one(void), known(void);
+__asm__("one: ret\n"
+        "known: mov $100, %ecx\n"
+        "1: dec %ecx\n"
+        "jnz 1b\n"
+        "ret\n");
+
+#define ALL(name) {name##_encode, name##_decode, name##_read_line, name##_frame_length, name##_make_frame}
+#define EACH(code) {(from_bytes *)code, (from_bytes *)code, (from_bytes *)code, (length_of *)code, (line_of *)code}
+
+/* NONE is in the mark before a call. */
+enum { NONE, ONE, KNOWN, PLAIN, ARCHIVE, PROGRAMS };
+static const struct program programs[PROGRAMS] = {
+    [ONE] = EACH(one), [KNOWN] = EACH(known), [PLAIN] = ALL(plain), [ARCHIVE] = ALL(prushgoli)};
+
+struct question {
+    enum call call;
+    size_t size;
+    uint32_t identifier;
+    const uint8_t *given;
+    size_t length;
+};
+
+static uint64_t ask(const struct program *program, const struct question *asked, uint8_t *lent)
+{
+    switch (asked->call) {
+    case ENCODE: return program->encode(asked->given, asked->length, lent, LENT);
+    case DECODE: return program->decode(asked->given, asked->length, lent, LENT);
+    case FRAME_LENGTH: return program->frame_length(asked->identifier, asked->given, asked->length);
+    case MAKE_FRAME: return program->make_frame(asked->identifier, asked->given, asked->length, lent, LENT);
+    default: return program->read_line(asked->given, asked->length, lent, LENT);
+    }
+}
+
+/* Not taken apart by the compiler, so that every program is called by the same instructions. */
+__attribute__((noipa)) static uint64_t count(int program, const struct question *asked, uint8_t *lent)
+{
+    syscall(MARK, NONE, 0, 0);
+    uint64_t answer = ask(&programs[program], asked, lent);
+    syscall(MARK, program, asked->call, asked->size);
+    return answer;
+}
+
+static unsigned long compared;
+
+static void count_all(struct question asked)
+{
+    uint8_t old[LENT], lent[PROGRAMS][LENT];
+    uint64_t answer[PROGRAMS];
+    random_bytes(old, LENT);
+    for (int program = ONE; program < PROGRAMS; program++) {
+        memcpy(lent[program], old, LENT);
+        answer[program] = count(program, &asked, lent[program]);
+    }
+    compared++;
+    if (answer[PLAIN] != answer[ARCHIVE] || memcmp(lent[PLAIN], lent[ARCHIVE], LENT) != 0) {
+        printf("bench: counted call %lu, of number %d and size %zu, differs\n", compared, asked.call, asked.size);
+        exit(EXIT_FAILURE);
+    }
+}
+
+static void count_calls(uint32_t identifier, const uint8_t *payload, size_t size)
+{
+    uint8_t field[PRUSHGOLI_FIELD_MOST], line[PRUSHGOLI_LINE_ROOM];
+    size_t n = plain_encode(payload, size, field, sizeof field);
+    size_t bits = plain_make_frame(identifier, payload, size, line, sizeof line);
+    count_all((struct question){ENCODE, size, 0, payload, size});
+    count_all((struct question){DECODE, size, 0, field, n});
+    count_all((struct question){FRAME_LENGTH, size, identifier, payload, size});
+    count_all((struct question){MAKE_FRAME, size, identifier, payload, size});
+    count_all((struct question){READ_LINE, size, 0, line, bits});
+}
+
+/* The first nine contents of a size are one of three bytes all along, with one of three identifiers. */
+int main(void)
+{
+    static const uint8_t bytes[] = {0x00, 0xFF, 0x55};
+    static const uint32_t identifiers[] = {0, 0x555, 2047};
+    for (size_t size = 0; size <= PRUSHGOLI_PAYLOAD_MOST; size++)
+        for (int i = 0; i < CONTENTS; i++) {
+            uint8_t payload[PRUSHGOLI_PAYLOAD_MOST];
+            random_bytes(payload, size);
+            if (i < 9)
+                memset(payload, bytes[i % 3], size);
+            count_calls(i < 9 ? identifiers[i / 3] : (uint32_t)random_below(2048), payload, size);
+        }
+    printf("bench: %lu counted calls compared, 0 differences\n", compared);
+    return EXIT_SUCCESS;
+}
