@@ -67,6 +67,7 @@ can-fail: lib target/bin/trace
 	tests/compare/can-fail
 	tests/trace/can-fail
 	tests/can-fail
+	bench/can-fail
 	@if [ -f build/evidence/index.html ]; then tests/evidence/can-fail; \
 	else echo 'make can-fail: no fault of the page was tried: there is none, make evidence makes it' >&2; fi
 
