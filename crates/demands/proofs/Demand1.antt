@@ -3,8 +3,8 @@
 -- the lent buffer, and with a refusal only the old one. `Asked` and `Learnt` are the toolchain's readings of the entry's own clauses: what
 -- they ask of a caller and what they tell it. Inputs i, and the parameters s after the call, are in the order of the signature: .0 the
 -- first, .1 .0 the second. That each entry ends, and meets its contract, is in Meets; what it checks is in Refusals. Assumes nothing.
---     c-encode-settled and five more      the calls for C
---     encode-settled and nineteen more    the calls in Rattle
+--     c-encode-settled and five more        the calls for C
+--     encode-settled and twenty-two more    the calls in Rattle
 use mathlib.Core.Path.{_≡_, refl, ap, subst, _∙_}
 use mathlib.Core.List.{List}
 use Prim.Native.Nat.{ℕ, _<_, _^_}
@@ -53,7 +53,10 @@ use Rattle.words.proofs.word_in.Reads as word-in
 use Rattle.words.proofs.look_up.Reads as look-up
 use Rattle.words.proofs.symbol_in.Reads as symbol-in
 use Rattle.words.proofs.word_list.list.Reads as word-list
+use Rattle.words.proofs.entry_in.Reads as entry-in
+use Rattle.words.proofs.is_escape.Reads as is-escape
 use Rattle.words.proofs.reverse_list.list.Reads as reverse-list
+use Rattle.words.proofs.short_list.list.Reads as short-list
 use Rattle.refusals.proofs.Refusal.number.Reads as number
 use Rattle.refusals.proofs.Refusal.place.Reads as place
 use Rattle.records.proofs.record_at.Reads as record-at
@@ -166,11 +169,20 @@ look-up-settled κs = settled (λ i. tt) (λ i a s says. says)
 pub symbol-in-settled : (κs : Lfts 1) → Settled (symbol-in.Asked κs) (symbol-in.Learnt κs)
 symbol-in-settled κs = settled (λ i. tt) (λ i a s says. says)
 
+pub entry-in-settled : (κs : Lfts 1) → Settled (entry-in.Asked κs) (entry-in.Learnt κs)
+entry-in-settled κs = settled (λ i. tt) (λ i a s says. says)
+
+pub is-escape-settled : (κs : Lfts 0) → Settled (is-escape.Asked κs) (is-escape.Learnt κs)
+is-escape-settled κs = settled (λ i. tt) (λ i a s says. says)
+
 pub word-list-settled : (κs : Lfts 0) → Settled (word-list.Asked κs) (word-list.Learnt κs)
 word-list-settled κs = settled (λ i. tt) (λ i a s says. says)
 
 pub reverse-list-settled : (κs : Lfts 0) → Settled (reverse-list.Asked κs) (reverse-list.Learnt κs)
 reverse-list-settled κs = settled (λ i. tt) (λ i a s says. says)
+
+pub short-list-settled : (κs : Lfts 0) → Settled (short-list.Asked κs) (short-list.Learnt κs)
+short-list-settled κs = settled (λ i. tt) (λ i a s says. says)
 
 pub number-settled : (κs : Lfts 0) → Settled (number.Asked κs) (number.Learnt κs)
 number-settled κs = settled (λ i. tt) (λ i a s says. says)

@@ -1,7 +1,7 @@
 -- Demand 1, every public call ends with an answer: each meets its contract, whatever the inputs. `statement` is the toolchain's: a call
 -- that is handed what its types say is safe, ends, and leaves what its clauses say. Assumes nothing.
---     c-encode-meets and five more      the calls for C
---     encode-meets and nineteen more    the calls in Rattle
+--     c-encode-meets and five more        the calls for C
+--     encode-meets and twenty-two more    the calls in Rattle
 use Rattle.prushgoli.proofs.prushgoli_encode.Met as c-encode
 use Rattle.prushgoli.proofs.prushgoli_encode.Statement as c-encode-contract
 use Rattle.prushgoli.proofs.prushgoli_decode.Met as c-decode
@@ -42,10 +42,16 @@ use Rattle.words.proofs.look_up.Met as look-up
 use Rattle.words.proofs.look_up.Statement as look-up-contract
 use Rattle.words.proofs.symbol_in.Met as symbol-in
 use Rattle.words.proofs.symbol_in.Statement as symbol-in-contract
+use Rattle.words.proofs.entry_in.Met as entry-in
+use Rattle.words.proofs.entry_in.Statement as entry-in-contract
+use Rattle.words.proofs.is_escape.Met as is-escape
+use Rattle.words.proofs.is_escape.Statement as is-escape-contract
 use Rattle.words.proofs.word_list.list.Met as word-list
 use Rattle.words.proofs.word_list.list.Statement as word-list-contract
 use Rattle.words.proofs.reverse_list.list.Met as reverse-list
 use Rattle.words.proofs.reverse_list.list.Statement as reverse-list-contract
+use Rattle.words.proofs.short_list.list.Met as short-list
+use Rattle.words.proofs.short_list.list.Statement as short-list-contract
 use Rattle.refusals.proofs.Refusal.number.Met as number
 use Rattle.refusals.proofs.Refusal.number.Statement as number-contract
 use Rattle.refusals.proofs.Refusal.place.Met as place
@@ -115,11 +121,20 @@ look-up-meets = look-up.met
 pub symbol-in-meets : {M : Type 1} → symbol-in-contract.statement M
 symbol-in-meets = symbol-in.met
 
+pub entry-in-meets : {M : Type 1} → entry-in-contract.statement M
+entry-in-meets = entry-in.met
+
+pub is-escape-meets : {M : Type 1} → is-escape-contract.statement M
+is-escape-meets = is-escape.met
+
 pub word-list-meets : {M : Type 1} → word-list-contract.statement M
 word-list-meets = word-list.met
 
 pub reverse-list-meets : {M : Type 1} → reverse-list-contract.statement M
 reverse-list-meets = reverse-list.met
+
+pub short-list-meets : {M : Type 1} → short-list-contract.statement M
+short-list-meets = short-list.met
 
 pub number-meets : {M : Type 1} → number-contract.statement M
 number-meets = number.met

@@ -2,3 +2,4 @@ pub mod Words
 pub mod Places
 pub mod Lists
 pub mod Symbols
+pub mod ShortList

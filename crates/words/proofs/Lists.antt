@@ -1,5 +1,6 @@
 -- What the two lists hold at each place. Assumes nothing.
 --     word-list-at       at x stands the word of byte x
+--     no-word-above      no number above 511 is among the words
 --     reverse-list-at    at nine bits stands their place among the words
 use mathlib.Core.Path.{_≡_, refl, sym, _∙_}
 use mathlib.Core.Bool.{Bool, true, false, cond}
@@ -19,8 +20,7 @@ pub word-list-at : (x : ℕ) → x < 256 → getD wordList x 0 ≡ wordOf x
 unfolding wordList
 word-list-at x h = numbers-at wordOf 0 256 x h
 
--- no number above 511 is among the words
-no-word-above : (nine : ℕ) → 512 ≤ nine → placeIn words nine ≡ 258
+pub no-word-above : (nine : ℕ) → 512 ≤ nine → placeIn words nine ≡ 258
 no-word-above nine h = place-none 512 words (λ i k. words-below i (omega (arith, words-258))) nine h ∙ words-258
 
 pub reverse-list-at : (nine : ℕ) → placeBy reverseList nine ≡ placeIn words nine

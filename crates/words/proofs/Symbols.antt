@@ -3,21 +3,24 @@
 --     word-only            nine bits that stand for x are the word of x
 --     word-once            two bytes never share a word
 --     something-exactly    nine bits stand for a byte or an escape exactly when they keep the rule
+--     nothing-above        a number above 511 stands for nothing
+--     escapes-are          the escapes are 001000010 and 110111101
 use mathlib.Core.Path.{_≡_, refl, sym, ap, _∙_}
-use mathlib.Core.Bool.{Bool, true, false, cond, Bool·beq}
-use Prim.Native.Nat.{ℕ, _+_, _-_, _<_}
+use mathlib.Core.Bool.{Bool, true, false, cond, _||_, Bool·beq}
+use Prim.Native.Nat.{ℕ, _+_, _-_, _≤_, _<_}
 use native.Mathlib.Omega.{arith}
 use lib.Dec.{T, eqb, ltb}
 use lib.ListN.{getD}
-use borrow.Author.Tests.{lt-ltb, eqb-false, ltb-true, ne-eqb}
+use borrow.Author.Tests.{lt-ltb, eqb-false, ltb-true, ltb-false, ne-eqb}
 use Rattle.bits.specs.Rows.{bits}
 use Rattle.bits.specs.Neighbours.{equalNeighbours}
 use Rattle.bits.proofs.Everywhere.{everywhere-at}
 use Rattle.words.specs.Words.{keepsRule, words, wordOf}
-use Rattle.words.specs.Symbols.{placeIn, symbolAt, symbolOf, something}
+use Rattle.words.specs.Symbols.{placeIn, symbolAt, symbolOf, something, isEscape}
 use Rattle.words.specs.declared.Symbol.the-variants.{Byte, Escape, Nothing}
 use Rattle.words.proofs.Places.{place-found, place-at}
 use Rattle.words.proofs.Words.{words-258, words-rising}
+use Rattle.words.proofs.Lists.{no-word-above}
 
 word-place : (x : ℕ) → x < 256 → placeIn words (wordOf x) ≡ x + 1
 unfolding wordOf
@@ -50,14 +53,35 @@ word-only nine x e =
     let p = byte-place (placeIn words nine) x e in
     (sym (place-found words nine (omega (arith, words-258))) ∙ ap (λ (k : ℕ). getD words k 0) (p .0), p .1)
 
+beq-eq : (a b : Bool) → T (Bool·beq a b) → a ≡ b
+beq-eq true true t = refl
+beq-eq true false t = absurd t
+beq-eq false true t = absurd t
+beq-eq false false t = refl
+
 pub something-exactly : (nine : ℕ) → nine < 512 → something (symbolOf nine) ≡ keepsRule (bits 9 nine)
 unfolding bits equalNeighbours words placeIn symbolOf
 something-exactly nine h =
     beq-eq (something (symbolOf nine)) (keepsRule (bits 9 nine))
     (everywhere-at (λ (k : ℕ). Bool·beq (something (symbolOf k)) (keepsRule (bits 9 k))) 512 tt nine h)
+
+pub nothing-above : (nine : ℕ) → 512 ≤ nine → symbolOf nine ≡ Nothing
+unfolding symbolOf
+nothing-above nine h = ap symbolAt (no-word-above nine h)
+
+-- J or K as a number
+abbrev pub isJK : ℕ → Bool
+isJK nine = eqb nine 66 || eqb nine 445
+
+escapes-below : (nine : ℕ) → nine < 512 → isEscape (symbolOf nine) ≡ isJK nine
+unfolding bits equalNeighbours words placeIn symbolOf
+escapes-below nine h = beq-eq _ _ (everywhere-at (λ (k : ℕ). Bool·beq (isEscape (symbolOf k)) (isJK k)) 512 tt nine h)
+
+pub escapes-are : (nine : ℕ) → isEscape (symbolOf nine) ≡ isJK nine
+escapes-are nine = go (ltb nine 512) refl
   where
-    beq-eq : (a b : Bool) → T (Bool·beq a b) → a ≡ b
-    beq-eq true true t = refl
-    beq-eq true false t = absurd t
-    beq-eq false true t = absurd t
-    beq-eq false false t = refl
+    go : (t : Bool) → ltb nine 512 ≡ t → isEscape (symbolOf nine) ≡ isJK nine
+    go true e = escapes-below nine (ltb-true nine 512 e)
+    go false e =
+        let above = ltb-false nine 512 e in
+        rw (nothing-above nine above, ne-eqb nine 66 (λ e. omega arith), ne-eqb nine 445 (λ e. omega arith))

@@ -28,3 +28,9 @@ abbrev pub something : Symbol → Bool
 something (Byte x) = true
 something Escape = true
 something Nothing = false
+
+-- J or K
+abbrev pub isEscape : Symbol → Bool
+isEscape (Byte x) = false
+isEscape Escape = true
+isEscape Nothing = false

@@ -1,14 +1,15 @@
 // The words of 8B9B: the word that carries a byte, and what nine bits stand for.
 //
-// A constant table is copied at each use: a caller that needs several entries takes the list once and lends it to word_in or
-// symbol_in. For a single entry there are word and look_up.
+// A constant table is copied at each use: a caller that needs several entries takes the list once and lends it to word_in, symbol_in
+// or entry_in. For a single entry there are word and look_up.
 ghost use mathlib.Core.Path.{_≡_};
 ghost use lib.ListN.{getD};
 ghost use Rattle.words.specs.Words.{wordOf};
-ghost use Rattle.words.specs.Symbols.{symbolAt, symbolOf};
-ghost use Rattle.words.specs.Lists.{placeBy};
+ghost use Rattle.words.specs.Symbols.{symbolAt, symbolOf, isEscape};
+ghost use Rattle.words.specs.Lists.{placeBy, entryBy};
 
 pub mod reverse_list;
+pub mod short_list;
 pub mod word_list;
 
 // What nine bits stand for.
@@ -69,4 +70,21 @@ fn symbol_at(place: u16) -> Symbol
         return Symbol::Escape;
     }
     Symbol::Nothing
+}
+
+// The seven lowest bits of the byte that nine bits carry, by a short list that the caller lends; 128 or more where they carry none.
+pub fn entry_in(list: &[u8; 512], nine: u16) -> u8
+    ensures { λ r. ⌜ r ≡ entryBy (now (list .entry)) nine ⌝ }
+{
+    if nine < 512 { list[nine as usize] } else { 128 }
+}
+
+// Whether nine bits are an escape, J or K.
+pub fn is_escape(nine: u16) -> bool
+    ensures { λ r. ⌜ r ≡ isEscape (symbolOf nine) ⌝ }
+{
+    if nine == 0b001000010 {
+        return true;
+    }
+    nine == 0b110111101
 }
