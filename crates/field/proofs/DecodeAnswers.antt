@@ -1,5 +1,6 @@
 -- The answers of decoding, one law for each. Assumes nothing.
 --     decode-long, decode-one    3, a field of more than 8 bytes or of 1
+--     decode-empty      the empty field has the empty payload
 --     decode-short      2, room short
 --     decode-broken     4, another bit in the break bit's place
 --     Begun, decode-body    a field whose length, room and break bit are right: its words and its padding decide
@@ -8,7 +9,7 @@
 --     decode-padding    7, bytes, but behind them another padding
 --     decode-accepts    the payload's length, where all is right
 --     decode-numbers    a field whose length is right has no other refusals than 2 and 4 to 7
-use mathlib.Core.Path.{_≡_, sym, ap, _∙_}
+use mathlib.Core.Path.{_≡_, refl, sym, ap, _∙_}
 use mathlib.Core.Bool.{Bool, true, false, cond, not}
 use mathlib.Core.List.{List, [], _∷_, _++_, map, append-nil}
 use Prim.Native.Nat.{ℕ, _+_, _≤_, _<_}
@@ -17,6 +18,7 @@ use native.Mathlib.Omega.{arith}
 use lib.Dec.{ltb}
 use lib.ListN.{length}
 use borrow.Author.Tests.{eq-eqb, ne-eqb, lt-ltb, le-ltb}
+use Rattle.bits.specs.Packing.{unpacked, packed}
 use Rattle.bits.specs.Same.{same}
 use Rattle.bits.proofs.Same.{eq-same, ne-same}
 use Rattle.refusals.specs.declared.Answer.{Answer}
@@ -27,8 +29,8 @@ use Rattle.words.specs.declared.Symbol.{Symbol}
 use Rattle.words.specs.declared.Symbol.the-variants.{Byte, Escape, Nothing}
 use Rattle.field.specs.Sizes.{breakBit, paddingBits}
 use Rattle.field.specs.Padding.{padding}
-use Rattle.field.specs.Parts.{sizeOf, breakPart, paddingPart, symbolsOf}
-use Rattle.field.specs.Decode.{wordsAnswer, paddingAnswer, decodeAnswer}
+use Rattle.field.specs.Parts.{sizeOf, breakPart, wordsPart, paddingPart, symbolsOf}
+use Rattle.field.specs.Decode.{wordsAnswer, paddingAnswer, decodeAnswer, payloadOf}
 use Rattle.field.proofs.FieldParts.{LengthAllowed}
 
 pub decode-long : (field : List ℕ) (room : ℕ) → 8 < length field → decodeAnswer field room ≡ Refused (refusal.FieldLength 0)
@@ -38,6 +40,11 @@ decode-long field room h = simp (ne-eqb (length field) 1 (λ e. omega arith), lt
 pub decode-one : (field : List ℕ) (room : ℕ) → length field ≡ 1 → decodeAnswer field room ≡ Refused (refusal.FieldLength 0)
 unfolding decodeAnswer
 decode-one field room h = simp (eq-eqb _ _ h)
+
+pub decode-empty : (field : List ℕ) (room : ℕ) → length field ≡ 0 → (decodeAnswer field room ≡ Length 0) × (payloadOf field ≡ [])
+unfolding decodeAnswer payloadOf unpacked breakPart wordsPart paddingPart packed padding
+decode-empty [] room h = (rw (le-ltb room 0 (omega arith)), refl)
+decode-empty (x ∷ field) room h = absurd (omega arith)
 
 pub decode-short : (field : List ℕ) (room : ℕ) → LengthAllowed field → room < sizeOf field
     → decodeAnswer field room ≡ Refused refusal.RoomShort

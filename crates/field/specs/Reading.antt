@@ -1,7 +1,7 @@
 -- What reading a field says before anything is written; no public contract cites it. Assumes nothing.
 use mathlib.Core.Path.{_≡_}
 use Prim.Native.Nat.{ℕ, _+_, _*_, _%_, _^_}
-use mathlib.Core.Bool.{Bool}
+use mathlib.Core.Bool.{Bool, cond}
 use mathlib.Core.List.{List, map}
 use lib.Dec.{eqb}
 use lib.ListN.{length}
@@ -9,12 +9,18 @@ use Rattle.bits.specs.Rows.{bits, number}
 use Rattle.bits.specs.Packing.{unpacked, packed}
 use Rattle.refusals.specs.declared.Answer.{Answer}
 use Rattle.refusals.specs.declared.Answer.the-variants as answer
-use Rattle.words.specs.Symbols.{symbolOf}
+use Rattle.refusals.specs.declared.Refusal.{Refusal}
+use Rattle.refusals.specs.declared.Refusal.the-variants as refusal
+use Rattle.words.specs.Symbols.{symbolOf, isEscape}
 use Rattle.words.specs.declared.Symbol.{Symbol}
 use Rattle.field.specs.Padding.{padding}
 use Rattle.field.specs.Decode.{byteOf, wordsAnswer, paddingAnswer}
 use Rattle.field.specs.declared.decoding.Reading.{Reading}
 use Rattle.field.specs.declared.decoding.Reading.the-variants.{Payload, Refused}
+
+-- 5 or 6, for a symbol that is no byte in the place of word i
+abbrev pub noByte : ℕ → Symbol → Refusal
+noByte i y = cond (isEscape y) (refusal.Escape i) (refusal.NoWord i)
 
 -- what the words stand for in the number of a field with `count` bits of padding
 abbrev pub symbolsIn : ℕ → ℕ → ℕ → List Symbol

@@ -6,14 +6,14 @@ ghost use lib.ListN.{length, drop};
 ghost use Rattle.bits.specs.Rows.{bits, number};
 ghost use Rattle.bits.specs.Packing.{unpacked, packed};
 
-// The number of at most eight bytes.
-pub(crate) fn load(bytes: &[u8]) -> u64
-    requires { ⌜ length (now bytes) ≤ 8 ⌝ }
+// The number of all bytes, which are `count`.
+pub(crate) fn load(bytes: &[u8], count: usize) -> u64
+    requires { ⌜ (length (now bytes) ≡ count) × (count ≤ 8) ⌝ }
     ensures { λ r. ⌜ r ≡ number 0 (unpacked 8 (now (bytes .entry))) ⌝ }
 {
     let mut number: u64 = 0;
     let mut i = 0;
-    while i < bytes.len() {
+    while i < count {
         number = number * 256 + bytes[i] as u64;
         i += 1;
     }

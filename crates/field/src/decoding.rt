@@ -1,18 +1,21 @@
 // Decoding a field that is one number: first it is read, which writes nothing, then its payload is stored.
 ghost use mathlib.Core.Path.{_≡_};
-ghost use Prim.Native.Nat.{_+_, _-_, _*_, _/_, _%_, _^_, _≤_, _<_};
+ghost use Prim.Native.Nat.{_+_, _*_, _/_, _%_, _^_, _≤_, _<_};
 ghost use lib.ListN.{length};
 ghost use Rattle.refusals.specs.After.{after};
+ghost use Rattle.words.specs.Symbols.{symbolOf};
+ghost use Rattle.words.specs.Lists.{shortList};
+ghost use Rattle.field.specs.Table.{rowOf};
 ghost use Rattle.field.specs.Coded.{fieldFrom};
 ghost use Rattle.field.specs.Decode.{decodeAnswer, payloadOf};
-ghost use Rattle.field.specs.Reading.{bodyAnswer, bodyBytes, Says};
+ghost use Rattle.field.specs.Reading.{bodyAnswer, bodyBytes, noByte, Says};
 use crate::bytes;
 use crate::padding;
 use crate::table;
+use crate::table::Row;
 use refusals::Answer;
 use refusals::Refusal;
-use words::Symbol;
-use words::reverse_list;
+use words::short_list;
 
 // The payload as one number, or why the field is refused.
 enum Reading {
@@ -26,9 +29,56 @@ pub fn decode_number(n: usize, number: u64, payload: &mut [u8]) -> Answer
     ensures answer { λ r. ⌜ r ≡ decodeAnswer (fieldFrom n number) (length (now (payload .entry))) ⌝ }
     ensures memory { λ r. ⌜ now (payload .exit) ≡ after r (payloadOf (fieldFrom n number)) (now (payload .entry)) ⌝ }
 {
-    match read(n, number, payload.len()) {
+    if n == 1 {
+        return Answer::Refused(Refusal::FieldLength(0));
+    }
+    if 8 < n {
+        return Answer::Refused(Refusal::FieldLength(0));
+    }
+    if n == 0 {
+        return Answer::Length(0);
+    }
+    let list = short_list::list();
+    let row = table::row_of(n - 1);
+    sized(&list, row, n - 1, number, payload)
+}
+
+// Decodes a field of 2 to 8 bytes: in each case the size is a number that the compiler knows.
+pub(crate) fn by_size(field: &[u8], payload: &mut [u8]) -> Answer
+    requires { ⌜ (1 < length (now field)) × (length (now field) ≤ 8) ⌝ }
+    ensures answer { λ r. ⌜ r ≡ decodeAnswer (now (field .entry)) (length (now (payload .entry))) ⌝ }
+    ensures memory { λ r. ⌜ now (payload .exit) ≡ after r (payloadOf (now (field .entry))) (now (payload .entry)) ⌝ }
+{
+    let list = short_list::list();
+    let n = field.len();
+    match n {
+        2 => loaded(&list, table::row_of(1), 1, field, payload),
+        3 => loaded(&list, table::row_of(2), 2, field, payload),
+        4 => loaded(&list, table::row_of(3), 3, field, payload),
+        5 => loaded(&list, table::row_of(4), 4, field, payload),
+        6 => loaded(&list, table::row_of(5), 5, field, payload),
+        7 => loaded(&list, table::row_of(6), 6, field, payload),
+        _ => loaded(&list, table::row_of(7), 7, field, payload),
+    }
+}
+
+// Decodes a field whose payload has `size` bytes.
+fn loaded(list: &[u8; 512], row: Row, size: usize, field: &[u8], payload: &mut [u8]) -> Answer
+    requires { ⌜ (now list ≡ shortList) × (row ≡ rowOf size) × (0 < size) × (size < 8) × (length (now field) ≡ size + 1) ⌝ }
+    ensures answer { λ r. ⌜ r ≡ decodeAnswer (now (field .entry)) (length (now (payload .entry))) ⌝ }
+    ensures memory { λ r. ⌜ now (payload .exit) ≡ after r (payloadOf (now (field .entry))) (now (payload .entry)) ⌝ }
+{
+    sized(list, row, size, bytes::load(field, size + 1), payload)
+}
+
+// The same of a field in a number.
+fn sized(list: &[u8; 512], row: Row, size: usize, number: u64, payload: &mut [u8]) -> Answer
+    requires { ⌜ (now list ≡ shortList) × (row ≡ rowOf size) × (0 < size) × (size < 8) ⌝ }
+    ensures answer { λ r. ⌜ r ≡ decodeAnswer (fieldFrom (size + 1) number) (length (now (payload .entry))) ⌝ }
+    ensures memory { λ r. ⌜ now (payload .exit) ≡ after r (payloadOf (fieldFrom (size + 1) number)) (now (payload .entry)) ⌝ }
+{
+    match read(list, row, size, number, payload.len()) {
         Reading::Payload(bytes) => {
-            let size = size_of(n);
             bytes::store(bytes, size, payload);
             Answer::Length(size)
         }
@@ -36,64 +86,55 @@ pub fn decode_number(n: usize, number: u64, payload: &mut [u8]) -> Answer
     }
 }
 
-// How many bytes the payload of a field of n bytes has: none that of the empty field.
-fn size_of(n: usize) -> usize
-    ensures { λ r. ⌜ r ≡ n - 1 ⌝ }
+// Reads a field in a number; `room` is the length of the buffer that its payload would go to.
+fn read(list: &[u8; 512], row: Row, size: usize, number: u64, room: usize) -> Reading
+    requires { ⌜ (now list ≡ shortList) × (row ≡ rowOf size) × (0 < size) × (size < 8) ⌝ }
+    ensures { λ r. ⌜ Says r (decodeAnswer (fieldFrom (size + 1) number) room) (payloadOf (fieldFrom (size + 1) number)) ⌝ }
 {
-    if n == 0 { 0 } else { n - 1 }
-}
-
-// Reads the field of n bytes in a number; `room` is the length of the buffer that its payload would go to.
-fn read(n: usize, number: u64, room: usize) -> Reading
-    ensures { λ r. ⌜ Says r (decodeAnswer (fieldFrom n number) room) (payloadOf (fieldFrom n number)) ⌝ }
-{
-    if n == 1 {
-        return Reading::Refused(Refusal::FieldLength(0));
-    }
-    if 8 < n {
-        return Reading::Refused(Refusal::FieldLength(0));
-    }
-    let size = size_of(n);
     if room < size {
         return Reading::Refused(Refusal::RoomShort);
     }
-    let row = table::row_of(size);
-    let body_bits = 9 * size + row.padding;
-    // Above words and padding stands the break bit; the empty field has none.
-    if lowest(number >> body_bits, 8 * n - body_bits) != row.break_bit {
+    // Above words and padding stands the break bit.
+    if lowest(number >> (9 * size + row.padding), 1) != row.break_bit {
         return Reading::Refused(Refusal::BreakBit);
     }
-    body(number, size, row.padding)
+    body(list, number, size, row.padding)
 }
 
 // Reads the words of a field, and then its `count` bits of padding.
-fn body(number: u64, size: usize, count: usize) -> Reading
-    requires { ⌜ (size < 8) × (count ≤ 8) × (9 * size + count < 64) ⌝ }
+fn body(list: &[u8; 512], number: u64, size: usize, count: usize) -> Reading
+    requires { ⌜ (now list ≡ shortList) × (size < 8) × (count ≤ 8) × (9 * size + count < 64) ⌝ }
     ensures { λ r. ⌜ Says r (bodyAnswer size count number) (bodyBytes size count number) ⌝ }
 {
-    let list = reverse_list::list();
     let mut payload: u64 = 0;
     let mut at = 9 * size + count;
     let mut i = 0;
     while i < size {
         at -= 9;
-        match words::symbol_in(&list, nine_at(number, at)) {
-            Symbol::Byte(x) => {
-                payload = payload * 256 + x as u64;
-            }
-            Symbol::Escape => {
-                return Reading::Refused(Refusal::Escape(i));
-            }
-            Symbol::Nothing => {
-                return Reading::Refused(Refusal::NoWord(i));
-            }
+        let nine = nine_at(number, at);
+        let entry = words::entry_in(list, nine);
+        if 127 < entry {
+            return Reading::Refused(no_byte(nine, i));
         }
+        let byte = nine / 256 * 128 + entry as u16;
+        payload = payload * 256 + byte as u64;
         i += 1;
     }
     if lowest(number, count) != padding::number_of(0, count) {
         return Reading::Refused(Refusal::Padding);
     }
     Reading::Payload(payload)
+}
+
+// Why nine bits are refused that carry no byte, in the place of word i.
+fn no_byte(nine: u16, i: usize) -> Refusal
+    ensures { λ r. ⌜ r ≡ noByte i (symbolOf nine) ⌝ }
+{
+    if words::is_escape(nine) {
+        Refusal::Escape(i)
+    } else {
+        Refusal::NoWord(i)
+    }
 }
 
 // The nine bits of a number above its `at` lowest.

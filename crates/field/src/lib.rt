@@ -41,9 +41,14 @@ pub fn decode(field: &[u8], payload: &mut [u8]) -> Answer
     ensures memory { λ r. ⌜ now (payload .exit) ≡ after r (payloadOf (now (field .entry))) (now (payload .entry)) ⌝ }
 {
     let n = field.len();
-    // More bytes do not go into one number.
+    if n == 1 {
+        return Answer::Refused(Refusal::FieldLength(0));
+    }
     if 8 < n {
         return Answer::Refused(Refusal::FieldLength(0));
     }
-    decoding::decode_number(n, bytes::load(field), payload)
+    if n == 0 {
+        return Answer::Length(0);
+    }
+    decoding::by_size(field, payload)
 }

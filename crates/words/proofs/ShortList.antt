@@ -1,9 +1,9 @@
 -- What the short list tells of nine bits. Assumes nothing.
 --     short-byte    an entry below 128 is a byte's seven lowest bits; the byte's highest is the first of the nine
 --     short-none    nine bits whose entry is from 128 on carry none
-use mathlib.Core.Path.{_≡_, refl, ap, _∙_}
+use mathlib.Core.Path.{_≡_, refl, ap}
 use mathlib.Core.Bool.{Bool, true, false, cond}
-use Prim.Native.Nat.{ℕ, _+_, _*_, _/_, _%_, _≤_, _<_}
+use Prim.Native.Nat.{ℕ, _+_, _*_, _/_, _%_, _<_}
 use native.Mathlib.Omega.{arith}
 use lib.Dec.{T, eqb, eqb→eq, ltb}
 use lib.ListN.{getD}

@@ -1,7 +1,7 @@
 // The words of 8B9B: the word that carries a byte, and what nine bits stand for.
 //
-// A constant table is copied at each use: a caller that needs several entries takes the list once and lends it to word_in, symbol_in
-// or entry_in. For a single entry there are word and look_up.
+// A constant table is copied at each use: a caller that needs several entries takes the list once and lends it to word_in,
+// symbol_in or entry_in. For a single entry there are word and look_up.
 ghost use mathlib.Core.Path.{_≡_};
 ghost use lib.ListN.{getD};
 ghost use Rattle.words.specs.Words.{wordOf};

@@ -1,5 +1,5 @@
-// The short list: for nine bits that carry a byte, the seven lowest bits of the byte, whose highest bit is the first of the nine. For
-// others 128 and their own seven lowest bits: of long rows of one value a compiler makes something slower.
+// The short list: for nine bits that carry a byte, the seven lowest bits of the byte, whose highest bit is the first of the
+// nine. For others 128 and their own seven lowest bits: of long rows of one value a compiler makes something slower.
 ghost use mathlib.Core.Path.{_≡_};
 ghost use Rattle.words.specs.Lists.{shortList};
 

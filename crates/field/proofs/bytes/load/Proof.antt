@@ -16,11 +16,11 @@ use Rattle.field.proofs.bytes.load.Statement.{statement}
 use Rattle.field.proofs.bytes.load.Tie as tie
 
 abbrev Inv-loop : tie.InvT-loop
-Inv-loop bytes n₀ i₀ n i =
+Inv-loop bytes count n₀ i₀ n i =
     (i ≤ length bytes) × (number n (unpacked 8 (drop i bytes)) ≡ number 0 (unpacked 8 bytes)) × (n < 256 ^ i)
 
 abbrev μ-loop : tie.MeasureT-loop
-μ-loop bytes n₀ i₀ n i = length bytes - i
+μ-loop bytes count n₀ i₀ n i = length bytes - i
 
 -- a number of i bytes leaves room for one more
 room : (i : ℕ) → i < 8 → 256 ^ i ≤ 256 ^ 7

@@ -1,84 +1,61 @@
--- `field::decoding::decode_number` meets its contract: what was read decides both the answer and what is written. Assumes nothing.
-use mathlib.Core.Path.{_≡_, refl, sym, ap, _∙_, subst}
-use mathlib.Core.List.{List}
-use Prim.Native.Nat.{ℕ, _-_}
+-- `field::decoding::decode_number` meets its contract: a length that no field has is refused, and the empty field has the empty
+-- payload. Assumes nothing.
+use mathlib.Core.Path.{_≡_, refl, sym, _∙_}
+use Prim.Native.Nat.{_+_, _-_}
 use native.Mathlib.Omega.{arith}
-use lib.ListN.{length}
 use borrow.Author.Needs.{needs}
-use Rattle.refusals.specs.declared.Answer.the-variants.{Length}
-use Rattle.field.specs.Parts.{sizeOf}
 use Rattle.field.specs.Coded.{fieldFrom}
-use Rattle.field.specs.Decode.{decodeAnswer, payloadOf}
-use Rattle.field.specs.Reading.{Says}
-use Rattle.field.specs.declared.decoding.Reading.{Reading}
-use Rattle.field.specs.declared.decoding.Reading.the-variants.{Payload}
 use Rattle.field.proofs.Coded.{from-length}
-use Rattle.field.proofs.FieldParts.{payload-below, payload-length}
-use Rattle.field.proofs.Accepted.{accepted}
-use Rattle.field.proofs.Stored.{stored}
+use Rattle.field.proofs.DecodeAnswers.{decode-empty, decode-one, decode-long}
 use Rattle.field.proofs.decoding.decode_number.Statement.{statement}
 use Rattle.field.proofs.decoding.decode_number.Tie as tie
 
-read-requires : tie.Need-read-requires
-read-requires c κs = search needs
+returns : tie.Need-returns
+returns c = (sym (decode-one _ _ (from-length _ _ ∙ c .if1 .taken)), refl)
 
-enum-known-bytes : tie.Need-enum-known-bytes
-enum-known-bytes c = search needs
+returns-2 : tie.Need-returns-2
+returns-2 c =
+    let a = c .before .before .before .args in
+    (sym (decode-long (fieldFrom (a .n) (a .number)) _ (omega (arith, from-length (a .n) (a .number)))), refl)
 
-size-of-requires : tie.Need-size-of-requires
-size-of-requires c κs = search needs
+returns-3 : tie.Need-returns-3
+returns-3 c = let empty = decode-empty _ _ (from-length _ _ ∙ c .if3 .taken) in (sym (empty .0), rw (empty .1))
 
--- the field, and what was read of it, in its case
-abbrev field : tie.After-read → List ℕ
-field c = fieldFrom (c .before .before .args .n) (c .before .before .args .number)
+list-requires : tie.Need-list-requires
+list-requires c κs = search needs
 
-read : (c : tie.After-read) (r : Reading) → c .read .result ≡ r
-    → Says r (decodeAnswer (field c) (length (c .before .before .args .payload .now))) (payloadOf (field c))
-read c r e =
-    let answer = decodeAnswer (field c) (length (c .before .before .args .payload .now)) in
-    subst (λ (x : Reading). Says x answer (payloadOf (field c))) e (c .read .ensures)
+sub-row-of : tie.Need-sub-row-of
+sub-row-of c = search needs
 
--- what was read of an accepted field, and how many bytes its payload has
-accepted-read : (c : tie.After-size-of) →
-    let before = c .before .before .before .before in
-    let answer = decodeAnswer (field before) (length (before .before .before .args .payload .now)) in
-    Says (Payload (c .before .before .bytes .given .0 .0)) answer (payloadOf (field before))
-accepted-read c = read (c .before .before .before .before) _ (c .before .before .bytes .given .1)
+row-of-requires : tie.Need-row-of-requires
+row-of-requires c κs = search needs
 
-size : (c : tie.After-size-of) → c .size-of .result ≡ sizeOf (field (c .before .before .before .before))
-size c = c .size-of .ensures ∙ ap (λ (n : ℕ). n - 1) (sym (from-length _ _))
+sub-sized : tie.Need-sub-sized
+sub-sized c = search needs
 
-store-requires : tie.Need-store-requires
-store-requires c κs =
-    let begun = accepted _ _ _ (accepted-read (c .before) .0) .begun in
-    (omega (arith, size (c .before), begun .allowed .at-most), omega (arith, size (c .before), begun .fits))
-
-enum-known-refusal : tie.Need-enum-known-refusal
-enum-known-refusal c = search needs
+sized-requires : tie.Need-sized-requires
+sized-requires c κs = search needs
 
 same-length : tie.Need-same-length
 same-length c = search needs
 
-returns : tie.Need-returns
-returns c =
-    let sized = c .before .before .before .before in
-    let long = size sized ∙ sym (payload-length _) in (
-      ap Length long ∙ sym (accepted-read sized .0),
-      c .before .before .store .ensures ∙ stored _ _ _ _ (payload-below _) (accepted-read sized .1) long,
-    )
-
-returns-2 : tie.Need-returns-2
-returns-2 c = (sym (read (c .before .before .before) _ (c .before .refusal .given .1)), refl)
+returns-4 : tie.Need-returns-4
+returns-4 c =
+    let n = c .before .before .before .before .before .before .before .before .before .before .before .args .n in
+    let back : n - 1 + 1 ≡ n = omega arith in
+    rw back at (c .before .before .sized .ensures)
 
 pub decode-number-spec : {M : Type 1} → statement M
 decode-number-spec =
     tie.close
     (tie.spec
-    read-requires
-    enum-known-bytes
-    size-of-requires
-    store-requires
-    enum-known-refusal
-    same-length
     returns
-    returns-2)
+    returns-2
+    returns-3
+    list-requires
+    sub-row-of
+    row-of-requires
+    sub-sized
+    sized-requires
+    same-length
+    returns-4)

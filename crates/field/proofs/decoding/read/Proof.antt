@@ -1,153 +1,117 @@
 -- `field::decoding::read` meets its contract: at each return the tests that led there decide the answer. Assumes nothing.
 use mathlib.Core.Path.{_≡_, sym, ap, ap₂, _∙_, subst}
 use mathlib.Core.List.{List}
-use Prim.Native.Nat.{ℕ, _+_, _-_, _*_, _/_, _%_, _^_, _≤_, _<_}
-use native.Mathlib.Nat.{add-sub-cancel}
+use Prim.Native.Nat.{ℕ, _+_, _*_, _/_, _%_, _^_, _≤_, _<_}
+use native.Mathlib.Numerals.{add-one}
 use native.Mathlib.Omega.{arith}
 use lib.ListN.{length}
 use borrow.Author.Needs.{needs}
 use Rattle.bits.specs.Rows.{bits, number}
-use Rattle.bits.proofs.Packing.{unpacked-length}
 use Rattle.field.specs.Sizes.{fieldBytes, breakBit, paddingBits}
 use Rattle.field.specs.Parts.{sizeOf, wordsStart}
 use Rattle.field.specs.Coded.{fieldFrom}
 use Rattle.field.specs.declared.table.Row.{Row}
 use Rattle.field.proofs.Sizes.{fieldBytes-back, paddingBits-few, body-few}
 use Rattle.field.proofs.Coded.{from-length, from-bits}
-use Rattle.field.proofs.FieldParts.{LengthAllowed, HeldIn, bodyBits, field-bits, highest, break-right, break-wrong}
-use Rattle.field.proofs.DecodeAnswers.{Begun, decode-one, decode-long, decode-short, decode-broken}
+use Rattle.field.proofs.FieldParts.{LengthAllowed, HeldIn, bodyBits, highest, break-right, break-wrong}
+use Rattle.field.proofs.DecodeAnswers.{Begun, decode-short, decode-broken}
 use Rattle.field.proofs.BodyRead.{body-says}
 use Rattle.field.proofs.decoding.read.Statement.{statement}
 use Rattle.field.proofs.decoding.read.Tie as tie
 
-returns : tie.Need-returns
-returns c = decode-one _ _ (from-length _ _ ∙ c .if1 .taken)
-
-returns-2 : tie.Need-returns-2
-returns-2 c =
-    let a = c .before .before .args in
-    decode-long (fieldFrom (a .n) (a .number)) _ (omega (arith, from-length (a .n) (a .number)))
-
-size-of-requires : tie.Need-size-of-requires
-size-of-requires c κs = search needs
-
 -- the field, and what is known of its length, its payload's and its bits
-abbrev field : tie.After-size-of → List ℕ
-field c = fieldFrom (c .before .before .before .args .n) (c .before .before .before .args .number)
+abbrev field : tie.Start → List ℕ
+field c = fieldFrom (c .args .size + 1) (c .args .number)
 
-long : (c : tie.After-size-of) → length (field c) ≡ c .before .before .before .args .n
+long : (c : tie.Start) → length (field c) ≡ c .args .size + 1
 long c = from-length _ _
 
-allowed : (c : tie.After-size-of) → LengthAllowed (field c)
-allowed c = record { not-one = λ e. c .before .before .if1 .left (sym (long c) ∙ e); at-most = omega (arith, long c) }
+size : (c : tie.Start) → c .args .size ≡ sizeOf (field c)
+size c = omega (arith, long c)
 
-size : (c : tie.After-size-of) → c .size-of .result ≡ sizeOf (field c)
-size c = c .size-of .ensures ∙ ap (λ (n : ℕ). n - 1) (sym (long c))
+allowed : (c : tie.Start) → LengthAllowed (field c)
+allowed c = record { not-one = λ e. omega (arith, long c); at-most = omega (arith, long c) }
 
-held : (c : tie.After-size-of) → HeldIn (c .before .before .before .args .number) (field c)
-held c = from-bits _ _ ∙ ap (λ (n : ℕ). bits (8 * n) (c .before .before .before .args .number)) (sym (long c))
-
-returns-3 : tie.Need-returns-3
-returns-3 c = decode-short _ _ (allowed (c .before)) (rw (size (c .before)) at (c .if3 .taken))
-
-row-of-requires : tie.Need-row-of-requires
-row-of-requires c κs = search needs
+held : (c : tie.Start) → HeldIn (c .args .number) (field c)
+held c = from-bits _ _ ∙ ap (λ (n : ℕ). bits (8 * n) (c .args .number)) (sym (long c))
 
 -- the row's numbers
-bit : (c : tie.After-row-of) → c .row-of .result .«break_bit» ≡ number 0 (breakBit (length (field (c .before .before))))
+bit : (c : tie.Start) → c .args .row .«break_bit» ≡ number 0 (breakBit (length (field c)))
 bit c =
-    let sized = c .before .before in
-    ap (λ (r : Row). r .«break_bit») (c .row-of .ensures)
-    ∙ ap (λ (n : ℕ). number 0 (breakBit n)) (ap fieldBytes (size sized) ∙ fieldBytes-back _ (allowed sized .not-one))
+    ap (λ (r : Row). r .«break_bit») (c .pre .1)
+    ∙ ap (λ (n : ℕ). number 0 (breakBit n)) (ap fieldBytes (size c) ∙ fieldBytes-back _ (allowed c .not-one))
 
-pad : (c : tie.After-row-of) → c .row-of .result .padding ≡ paddingBits (sizeOf (field (c .before .before)))
-pad c = ap (λ (r : Row). r .padding) (c .row-of .ensures) ∙ ap paddingBits (size (c .before .before))
+pad : (c : tie.Start) → c .args .row .padding ≡ paddingBits (sizeOf (field c))
+pad c = ap (λ (r : Row). r .padding) (c .pre .1) ∙ ap paddingBits (size c)
 
-pad-few : (c : tie.After-row-of) → c .row-of .result .padding ≤ 8
-pad-few c = subst (λ (n : ℕ). n ≤ 8) (sym (pad c)) (paddingBits-few (sizeOf (field (c .before .before))))
+pad-few : (c : tie.Start) → c .args .row .padding ≤ 8
+pad-few c = subst (λ (n : ℕ). n ≤ 8) (sym (pad c)) (paddingBits-few (sizeOf (field c)))
 
 -- where they cut the field's bits
-body-bits : (c : tie.After-row-of)
-    → 9 * c .before .before .size-of .result + c .row-of .result .padding ≡ bodyBits (field (c .before .before))
-body-bits c = ap₂ (λ (s p : ℕ). 9 * s + p) (size (c .before .before)) (pad c)
+body-bits : (c : tie.Start) → 9 * c .args .size + c .args .row .padding ≡ bodyBits (field c)
+body-bits c = ap₂ (λ (s p : ℕ). 9 * s + p) (size c) (pad c)
 
-body-below : (c : tie.After-row-of) → 9 * c .before .before .size-of .result + c .row-of .result .padding < 64
-body-below c =
-    let few : sizeOf (field (c .before .before)) ≤ 7 = omega (arith, allowed (c .before .before) .at-most) in
-    subst (λ (n : ℕ). n < 64) (sym (body-bits c)) (body-few _ few)
+body-below : (c : tie.Start) → 9 * c .args .size + c .args .row .padding < 64
+body-below c = subst (λ (n : ℕ). n < 64) (sym (body-bits c)) (body-few _ (omega (arith, long c)))
 
-all-bits : (c : tie.After-size-of) → 8 * c .before .before .before .args .n ≡ wordsStart (field c) + bodyBits (field c)
-all-bits c = ap (8 *_) (sym (long c)) ∙ sym (unpacked-length 8 (field c)) ∙ field-bits (field c) (allowed c)
+one : (c : tie.Start) → wordsStart (field c) ≡ 1
+one c = ap (λ (n : ℕ). length (breakBit n)) (long c ∙ add-one _)
 
-mul-body-bits : tie.Need-mul-body-bits
-mul-body-bits c = search needs
-
-add-body-bits : tie.Need-add-body-bits
-add-body-bits c = omega (arith, body-below (c .before))
-
-shr-lowest : tie.Need-shr-lowest
-shr-lowest c = body-below (c .before)
+returns : tie.Need-returns
+returns c = decode-short _ _ (allowed (c .before)) (rw (size (c .before)) at (c .if1 .taken))
 
 mul-lowest : tie.Need-mul-lowest
 mul-lowest c = search needs
 
-sub-lowest : tie.Need-sub-lowest
-sub-lowest c = omega (arith, body-bits (c .before), all-bits (c .before .before .before))
+add-lowest : tie.Need-add-lowest
+add-lowest c = omega (arith, body-below (c .before .before))
+
+shr-lowest : tie.Need-shr-lowest
+shr-lowest c = body-below (c .before .before)
 
 lowest-requires : tie.Need-lowest-requires
 lowest-requires c κs = search needs
 
 -- what stands in the break bit's place
 high : (c : tie.After-lowest) →
-    let sized = c .before .before .before .before in
-    c .lowest .result ≡ highest (field sized) (sized .before .before .before .args .number)
+    let start = c .before .before .before in
+    c .lowest .result ≡ highest (field start) (start .args .number)
 high c =
-    let row = c .before .before in
-    let sized = row .before .before in
-    let v = sized .before .before .before .args .number in
-    let start = ap₂ _-_ (all-bits sized) (body-bits row) ∙ add-sub-cancel (wordsStart (field sized)) _ in
-    c .lowest .ensures ∙ ap₂ (λ (j k : ℕ). v / 2 ^ j % 2 ^ k) (body-bits row) start
+    let start = c .before .before .before in
+    c .lowest .ensures ∙ ap₂ (λ (j k : ℕ). start .args .number / 2 ^ j % 2 ^ k) (body-bits start) (sym (one start))
 
-returns-4 : tie.Need-returns-4
-returns-4 c =
-    let row = c .before .before .before .before in
-    let sized = row .before .before in
-    decode-broken _ _ (allowed sized) (omega (arith, size sized))
-    (break-wrong _ _ _ _ (allowed sized) (held sized) (high (c .before .before)) (bit row) (c .if4 .taken))
+returns-2 : tie.Need-returns-2
+returns-2 c =
+    let start = c .before .before .before .before .before in
+    decode-broken _ _ (allowed start) (omega (arith, size start))
+    (break-wrong _ _ _ _ (allowed start) (held start) (high (c .before .before)) (bit start) (c .if2 .taken))
 
 body-requires : tie.Need-body-requires
 body-requires c κs =
-    let row = c .before .before .before .before in
-    (search needs, pad-few row, body-below row)
+    let start = c .before .before .before .before .before in
+    (search needs, search needs, pad-few start, body-below start)
 
-returns-5 : tie.Need-returns-5
-returns-5 c =
+returns-3 : tie.Need-returns-3
+returns-3 c =
     let cut = c .before .before .before in
-    let row = cut .before .before in
-    let sized = row .before .before in
-    let begun : Begun (field sized) (sized .before .before .before .args .room)
+    let start = cut .before .before .before in
+    let begun : Begun (field start) (start .args .room)
     = record {
-      allowed = allowed sized;
-      fits = omega (arith, size sized);
-      break-is = break-right _ _ _ _ (allowed sized) (held sized) (high cut) (bit row) (c .before .if4 .left);
+      allowed = allowed start;
+      fits = omega (arith, size start);
+      break-is = break-right _ _ _ _ (allowed start) (held start) (high cut) (bit start) (c .before .if2 .left);
     } in
-    body-says _ _ _ _ _ (c .body .result) begun (held sized) (size sized) (pad row) (c .body .ensures)
+    body-says _ _ _ _ _ (c .body .result) begun (held start) (size start) (pad start) (c .body .ensures)
 
 pub read-spec : {M : Type 1} → statement M
 read-spec =
     tie.close
     (tie.spec
     returns
-    returns-2
-    size-of-requires
-    returns-3
-    row-of-requires
-    mul-body-bits
-    add-body-bits
-    shr-lowest
     mul-lowest
-    sub-lowest
+    add-lowest
+    shr-lowest
     lowest-requires
-    returns-4
+    returns-2
     body-requires
-    returns-5)
+    returns-3)
