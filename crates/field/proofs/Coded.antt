@@ -1,5 +1,6 @@
 -- A payload coded into one number, and the field of such a number. Assumes nothing.
 --     coded-long       1, a payload of more than 7 bytes
+--     coded-empty      the empty payload: no bytes
 --     coded-short      a payload of at most 7 bytes: its field's bytes, and their number
 --     coded-refused, coded-field    what an answer tells of the payload
 --     from-length, from-bits    the field of a number: n bytes, and their bits are the number's lowest
@@ -7,7 +8,7 @@
 --     from-coded       and so does a payload's field
 use mathlib.Core.Path.{_≡_, refl, _∙_}
 use mathlib.Core.Bool.{Bool, true, false, cond}
-use mathlib.Core.List.{List}
+use mathlib.Core.List.{List, [], _∷_}
 use Prim.Native.Nat.{ℕ, _*_, _≤_, _<_}
 use native.Mathlib.Omega.{arith}
 use lib.Dec.{ltb}
@@ -16,7 +17,7 @@ use lib.Seq.{take-all}
 use borrow.Author.Tests.{lt-ltb, le-ltb, ltb-true, ltb-false}
 use Rattle.bits.specs.Below.{Below}
 use Rattle.bits.specs.Rows.{bits, number}
-use Rattle.bits.specs.Packing.{unpacked}
+use Rattle.bits.specs.Packing.{unpacked, packed}
 use Rattle.bits.proofs.Rows.{bits-length, bits-below}
 use Rattle.bits.proofs.Packing.{packed-length, unpacked-packed, packed-number}
 use Rattle.refusals.specs.declared.Refusal.{Refusal}
@@ -29,6 +30,11 @@ use Rattle.field.proofs.FieldBits.{field-below}
 pub coded-long : (payload : List ℕ) → 7 < length payload → coded payload ≡ Refused PayloadTooLong
 unfolding coded
 coded-long payload h = simp (lt-ltb _ _ h)
+
+pub coded-empty : (payload : List ℕ) → length payload ≡ 0 → coded payload ≡ Field 0 0
+unfolding coded fieldOf packed unpacked number
+coded-empty [] h = refl
+coded-empty (x ∷ payload) h = absurd (omega arith)
 
 pub coded-short : (payload : List ℕ) → length payload ≤ 7
     → coded payload ≡ Field (length (fieldOf payload)) (number 0 (unpacked 8 (fieldOf payload)))

@@ -1,20 +1,29 @@
 -- The answers of encoding, one law for each. Assumes nothing.
 --     encode-long       1, a payload of more than 7 bytes
+--     encode-empty      the empty payload has the empty field
 --     encode-short      2, room short
 --     encode-accepts    a payload of at most 7 bytes is accepted where its field has room
-use mathlib.Core.Path.{_≡_}
-use mathlib.Core.List.{List}
+use mathlib.Core.Path.{_≡_, refl}
+use mathlib.Core.List.{List, [], _∷_}
 use Prim.Native.Nat.{ℕ, _≤_, _<_}
+use native.Mathlib.Omega.{arith}
 use lib.ListN.{length}
 use borrow.Author.Tests.{lt-ltb, le-ltb}
+use Rattle.bits.specs.Packing.{packed}
 use Rattle.refusals.specs.declared.Answer.the-variants.{Length, Refused}
 use Rattle.refusals.specs.declared.Refusal.the-variants.{PayloadTooLong, RoomShort}
 use Rattle.field.specs.Sizes.{fieldBytes}
+use Rattle.field.specs.Field.{fieldOf}
 use Rattle.field.specs.Encode.{encodeAnswer}
 
 pub encode-long : (payload : List ℕ) (room : ℕ) → 7 < length payload → encodeAnswer payload room ≡ Refused PayloadTooLong
 unfolding encodeAnswer
 encode-long payload room h = simp (lt-ltb _ _ h)
+
+pub encode-empty : (payload : List ℕ) (room : ℕ) → length payload ≡ 0 → (encodeAnswer payload room ≡ Length 0) × (fieldOf payload ≡ [])
+unfolding encodeAnswer fieldOf packed
+encode-empty [] room h = (rw (le-ltb room 0 (omega arith)), refl)
+encode-empty (x ∷ payload) room h = absurd (omega arith)
 
 pub encode-short : (payload : List ℕ) (room : ℕ) → length payload ≤ 7 → room < fieldBytes (length payload)
     → encodeAnswer payload room ≡ Refused RoomShort

@@ -27,29 +27,56 @@ pub fn code(payload: &[u8]) -> Coded
     if 7 < size {
         return Coded::Refused(Refusal::PayloadTooLong);
     }
-    let row = table::row_of(size);
-    let number = field_number(payload, row);
+    if size == 0 {
+        return Coded::Field(0, 0);
+    }
+    by_size(payload)
+}
+
+// Codes a payload of 1 to 7 bytes: in each case the size is a number that the compiler knows.
+fn by_size(payload: &[u8]) -> Coded
+    requires { ⌜ (0 < length (now payload)) × (length (now payload) < 8) ⌝ }
+    ensures { λ r. ⌜ r ≡ coded (now (payload .entry)) ⌝ }
+{
+    let list = word_list::list();
+    let size = payload.len();
+    match size {
+        1 => sized(&list, table::row_of(1), payload, 1),
+        2 => sized(&list, table::row_of(2), payload, 2),
+        3 => sized(&list, table::row_of(3), payload, 3),
+        4 => sized(&list, table::row_of(4), payload, 4),
+        5 => sized(&list, table::row_of(5), payload, 5),
+        6 => sized(&list, table::row_of(6), payload, 6),
+        _ => sized(&list, table::row_of(7), payload, 7),
+    }
+}
+
+// Codes a payload of `size` bytes.
+fn sized(list: &[u16; 256], row: Row, payload: &[u8], size: usize) -> Coded
+    requires { ⌜ (now list ≡ wordList) × (row ≡ rowOf size) × (length (now payload) ≡ size) × (size < 8) ⌝ }
+    ensures { λ r. ⌜ r ≡ coded (now (payload .entry)) ⌝ }
+{
+    let number = field_number(list, row, payload, size);
     Coded::Field(row.bytes, number)
 }
 
 // The number of a payload's field, its row being given.
-fn field_number(payload: &[u8], row: Row) -> u64
-    requires { ⌜ (length (now payload) < 8) × (row ≡ rowOf (length (now payload))) ⌝ }
+pub(crate) fn field_number(list: &[u16; 256], row: Row, payload: &[u8], size: usize) -> u64
+    requires { ⌜ (now list ≡ wordList) × (row ≡ rowOf size) × (length (now payload) ≡ size) × (size < 8) ⌝ }
     ensures { λ r. ⌜ r ≡ number 0 (fieldBits (now (payload .entry))) ⌝ }
 {
-    let list = word_list::list();
-    let number = with_words(&list, row.break_bit, payload);
+    let number = with_words(list, row.break_bit, payload, size);
     (number << row.padding) + padding::number_of(0, row.padding)
 }
 
 // The number of a first bit and, behind it, the words of a payload.
-fn with_words(list: &[u16; 256], first: u64, payload: &[u8]) -> u64
-    requires { ⌜ (now list ≡ wordList) × (first < 2) × (length (now payload) < 8) ⌝ }
+fn with_words(list: &[u16; 256], first: u64, payload: &[u8], size: usize) -> u64
+    requires { ⌜ (now list ≡ wordList) × (first < 2) × (length (now payload) ≡ size) × (size < 8) ⌝ }
     ensures { λ r. ⌜ r ≡ number first (wordBits (now (payload .entry))) ⌝ }
 {
     let mut number = first;
     let mut i = 0;
-    while i < payload.len() {
+    while i < size {
         number = number * 512 + words::word_in(list, payload[i]) as u64;
         i += 1;
     }

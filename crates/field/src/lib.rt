@@ -12,9 +12,9 @@ mod bytes;
 pub mod decoding;
 pub mod encoding;
 mod padding;
+mod storing;
 pub mod table;
 
-use encoding::Coded;
 use refusals::Answer;
 use refusals::Refusal;
 
@@ -23,16 +23,14 @@ pub fn encode(payload: &[u8], field: &mut [u8]) -> Answer
     ensures answer { λ r. ⌜ r ≡ encodeAnswer (now (payload .entry)) (length (now (field .entry))) ⌝ }
     ensures memory { λ r. ⌜ now (field .exit) ≡ after r (fieldOf (now (payload .entry))) (now (field .entry)) ⌝ }
 {
-    match encoding::code(payload) {
-        Coded::Field(n, number) => {
-            if field.len() < n {
-                return Answer::Refused(Refusal::RoomShort);
-            }
-            bytes::store(number, n, field);
-            Answer::Length(n)
-        }
-        Coded::Refused(refusal) => Answer::Refused(refusal),
+    let size = payload.len();
+    if 7 < size {
+        return Answer::Refused(Refusal::PayloadTooLong);
     }
+    if size == 0 {
+        return Answer::Length(0);
+    }
+    storing::by_size(payload, field)
 }
 
 // Decodes a field: the length of its payload, which stands at the start of `payload`. Refused with 2 to 7.

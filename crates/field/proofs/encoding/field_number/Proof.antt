@@ -8,18 +8,22 @@ use lib.ListN.{length}
 use Rattle.bits.specs.Rows.{number}
 use Rattle.field.specs.Sizes.{fieldBytes, breakBit, paddingBits}
 use Rattle.field.specs.Field.{fieldBits}
+use Rattle.field.specs.Table.{rowOf}
 use Rattle.field.specs.declared.table.Row.{Row}
 use Rattle.field.proofs.Sizes.{paddingBits-few, break-number-below}
 use Rattle.field.proofs.FieldBits.{field-number, field-number-below}
 use Rattle.field.proofs.encoding.field_number.Statement.{statement}
 use Rattle.field.proofs.encoding.field_number.Tie as tie
 
--- the row's numbers
+-- the row, and its numbers
+row : (c : tie.Start) → c .args .row ≡ rowOf (length (c .args .payload .now))
+row c = c .pre .1 ∙ ap rowOf (sym (c .pre .2))
+
 bit : (c : tie.Start) → c .args .row .«break_bit» ≡ number 0 (breakBit (fieldBytes (length (c .args .payload .now))))
-bit c = ap (λ (r : Row). r .«break_bit») (c .pre .1)
+bit c = ap (λ (r : Row). r .«break_bit») (row c)
 
 pad : (c : tie.Start) → c .args .row .padding ≡ paddingBits (length (c .args .payload .now))
-pad c = ap (λ (r : Row). r .padding) (c .pre .1)
+pad c = ap (λ (r : Row). r .padding) (row c)
 
 bit-below : (c : tie.Start) → c .args .row .«break_bit» < 2
 bit-below c = subst (λ (n : ℕ). n < 2) (sym (bit c)) (break-number-below (fieldBytes (length (c .args .payload .now))))
@@ -27,29 +31,25 @@ bit-below c = subst (λ (n : ℕ). n < 2) (sym (bit c)) (break-number-below (fie
 pad-few : (c : tie.Start) → c .args .row .padding ≤ 8
 pad-few c = subst (λ (n : ℕ). n ≤ 8) (sym (pad c)) (paddingBits-few (length (c .args .payload .now)))
 
-list-requires : tie.Need-list-requires
-list-requires c κs = search needs
-
 with-words-requires : tie.Need-with-words-requires
-with-words-requires c κs =
-    (c .before .list .ensures, bit-below (c .before .before .before), c .before .before .before .pre .0)
+with-words-requires c κs = (search needs, bit-below (c .before), search needs, search needs)
 
 shl-result : tie.Need-shl-result
-shl-result c = omega (arith, pad-few (c .before .before .before .before))
+shl-result c = omega (arith, pad-few (c .before .before))
 
 number-of-requires : tie.Need-number-of-requires
-number-of-requires c κs = (omega arith, pad-few (c .before .before .before .before))
+number-of-requires c κs = (omega arith, pad-few (c .before .before))
 
 -- the two parts, before the shift's own bound is looked at
 whole : (c : tie.After-number-of)
-    → c .before .with-words .result * 2 ^ c .before .before .before .before .before .args .row .padding + c .number-of .result
-    ≡ number 0 (fieldBits (c .before .before .before .before .before .args .payload .now))
+    → c .before .with-words .result * 2 ^ c .before .before .before .args .row .padding + c .number-of .result
+    ≡ number 0 (fieldBits (c .before .before .before .args .payload .now))
 whole c =
-    let start = c .before .before .before .before .before in
+    let start = c .before .before .before in
     rw (c .before .with-words .ensures, c .number-of .ensures, bit start, pad start) (field-number _)
 
-few : (c : tie.After-number-of) → number 0 (fieldBits (c .before .before .before .before .before .args .payload .now)) < 2 ^ 64
-few c = field-number-below _ (omega (arith, c .before .before .before .before .before .pre .0))
+few : (c : tie.After-number-of) → number 0 (fieldBits (c .before .before .before .args .payload .now)) < 2 ^ 64
+few c = field-number-below _ (omega arith)
 
 add-result : tie.Need-add-result
 add-result c = omega (arith, whole c, few c)
@@ -61,4 +61,4 @@ returns c =
 pub field-number-spec : {M : Type 1} → statement M
 field-number-spec =
     tie.close
-    (tie.spec list-requires with-words-requires shl-result number-of-requires add-result returns)
+    (tie.spec with-words-requires shl-result number-of-requires add-result returns)

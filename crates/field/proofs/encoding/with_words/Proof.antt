@@ -21,11 +21,11 @@ use Rattle.field.proofs.encoding.with_words.Statement.{statement}
 use Rattle.field.proofs.encoding.with_words.Tie as tie
 
 abbrev Inv-loop : tie.InvT-loop
-Inv-loop list first payload n₀ i₀ n i =
+Inv-loop list first payload size n₀ i₀ n i =
     (i ≤ length payload) × (number n (wordBits (drop i payload)) ≡ number first (wordBits payload)) × (n < 2 * 512 ^ i)
 
 abbrev μ-loop : tie.MeasureT-loop
-μ-loop list first payload n₀ i₀ n i = length payload - i
+μ-loop list first payload size n₀ i₀ n i = length payload - i
 
 -- a number of 1 + 9 i bits leaves room for a word more
 room : (i : ℕ) → i < 7 → 512 ^ i ≤ 512 ^ 6

@@ -1,0 +1,55 @@
+-- `field::storing::sized` meets its contract: where there is room, the field's number is stored. Assumes nothing.
+use mathlib.Core.Path.{_≡_, refl, sym, ap, _∙_}
+use Prim.Native.Nat.{_≤_}
+use native.Mathlib.Omega.{arith}
+use borrow.Author.Needs.{needs}
+use lib.ListN.{length}
+use Rattle.bits.specs.Rows.{number}
+use Rattle.refusals.specs.declared.Answer.the-variants.{Length}
+use Rattle.field.specs.Sizes.{fieldBytes}
+use Rattle.field.specs.Field.{fieldOf}
+use Rattle.field.specs.declared.table.Row.{Row}
+use Rattle.field.proofs.Sizes.{fieldBytes-few}
+use Rattle.field.proofs.FieldBits.{field-length, field-below, bits-of-field}
+use Rattle.field.proofs.EncodeAnswers.{encode-short, encode-accepts}
+use Rattle.field.proofs.Stored.{stored}
+use Rattle.field.proofs.storing.sized.Statement.{statement}
+use Rattle.field.proofs.storing.sized.Tie as tie
+
+short : (c : tie.Start) → length (c .args .payload .now) ≤ 7
+short c = omega arith
+
+-- the row's bytes
+bytes : (c : tie.Start) → c .args .row .bytes ≡ fieldBytes (length (c .args .payload .now))
+bytes c = ap (λ (r : Row). r .bytes) (c .pre .1) ∙ ap fieldBytes (sym (c .pre .2))
+
+returns : tie.Need-returns
+returns c =
+    let start = c .before .before .before in
+    (sym (encode-short _ _ (short start) (rw (bytes start) at (c .if1 .taken))), refl)
+
+field-number-requires : tie.Need-field-number-requires
+field-number-requires c κs = search needs
+
+store-requires : tie.Need-store-requires
+store-requires c κs =
+    let start = c .before .before .before .before .before in
+    (omega (arith, bytes start, fieldBytes-few _ (short start)), search needs)
+
+same-length : tie.Need-same-length
+same-length c = search needs
+
+returns-2 : tie.Need-returns-2
+returns-2 c =
+    let counted = c .before .before .before .before in
+    let start = counted .before .before .before .before in (
+      ap Length (bytes start) ∙ sym (encode-accepts _ _ (short start) (rw (bytes start) at (counted .before .if1 .left))),
+      c .before .before .store .ensures
+          ∙ stored (fieldOf _) _ _ _ (field-below _)
+          (counted .field-number .ensures ∙ ap (number 0) (sym (bits-of-field _ (short start))))
+          (bytes start ∙ sym (field-length _)),
+    )
+
+pub sized-spec : {M : Type 1} → statement M
+sized-spec =
+    tie.close (tie.spec returns field-number-requires store-requires same-length returns-2)
