@@ -1,28 +1,32 @@
--- From field to field. Assumes nothing.
---     width-is, bit-is    what the code finds of a field, how many bits it has and which must stand there
---     line-begins     before the first field
---     field-begins    into a field
---     Ends, field-ends    behind its last bit: to the next one, or the line is refused as the definition says
---     line-longer     behind the last field: the line goes on,
+-- From row to row. Assumes nothing.
+--     width-is, bit-is    what the code finds of a row, how many bits it has and which must stand there
+--     row-bits        and which it may be
+--     line-begins     before the first row
+--     field-begins    into a row
+--     Ends, field-ends    where reading stops in it: to the next one, or the line is refused as the definition says
+--     line-longer     behind the last row: the line goes on,
 --     line-read       or it is read
 use mathlib.Core.Path.{_≡_, refl, sym, ap, _∙_, subst}
-use mathlib.Core.Bool.{Bool, true, false, cond, _||_}
+use mathlib.Core.Bool.{Bool, true, false, cond, _&&_, _||_}
 use mathlib.Core.List.{List, [], _++_}
 use Prim.Native.Nat.{ℕ, zero, suc, _+_, _-_, _*_, _%_, _≤_, _<_}
 use native.Mathlib.Omega.{arith}
-use lib.Dec.{eqb, ltb, lit<}
+use lib.Dec.{eqb, leb, ltb, lit<, T}
 use lib.ListN.{length, getD, drop-of-length-le}
 use lib.Seq.{drop-cons, getD-set-other}
-use borrow.Author.Tests.{eq-eqb, ne-eqb, eqb-true, eqb-false}
+use borrow.Author.Tests.{eq-eqb, ne-eqb, leb-true, ltb-true, ltb-false, eqb-true, eqb-false}
+use mir.Facts.{and-yes}
 use Rattle.bits.specs.Rows.{bits, number}
+use Rattle.bits.specs.declared.Run.{Run}
 use Rattle.bits.specs.Stuffing.{nothingSent}
+use Rattle.bits.proofs.Everywhere.{everywhere, everywhere-at}
 use Rattle.refusals.specs.declared.Refusal.the-variants.{FieldLength, LineLength}
 use Rattle.frame.specs.Header.{dataBytes}
 use Rattle.frame.specs.Crc.{crc}
-use Rattle.line.specs.Fields.{fixed, free, fieldsOf}
+use Rattle.line.specs.Fields.{fixed, free}
 use Rattle.line.specs.Scan.{dlcIn, complete, crcStart, crcRight, Verdict, right, shown, stopped, onward, scan, scanned}
 use Rattle.line.specs.Read.{identifierIn}
-use Rattle.line.specs.Steps.{width, headerRead, fieldRead, crcRead, fieldEnd, Holds, Reads}
+use Rattle.line.specs.Steps.{rowsOf, least, width, headerRead, fieldRead, crcRead, partEnd, fieldEnd, Holds, Reads}
 use Rattle.line.specs.declared.fields.Field.{Field}
 use Rattle.line.specs.declared.seen.Seen.{Seen}
 use Rattle.line.specs.declared.seen.Step.{Step}
@@ -30,36 +34,57 @@ use Rattle.line.specs.declared.seen.Step.the-variants.{Next, Refused}
 use Rattle.line.proofs.Positions.{rowAt, startOf, endOf, end-is, next-start, Stage, before-dlc, dlc, data-bits, crc-bits, ending, stage, first-start, data-start, frame-end}
 use Rattle.line.proofs.Registers.{Fine, Registers, in-header, in-data, behind, dlc-known, dlc-read, header-put, field-put, crc-there, identifier-there, field-there}
 use Rattle.line.proofs.Verdicts.{bit-too-many, dlc-taken, taken-dlc, length-refused, crc-refused, nothing-shown}
-use Rattle.line.proofs.Keeping.{bytes, rest, pending, Between, Within}
+use Rattle.line.proofs.RawBits.{none}
+use Rattle.line.proofs.Keeping.{bytes, rest, pending, Between, Within, least-not, missing}
 
 -- only the data field hangs on the DLC
-other-field : (f n : ℕ) → (f ≡ 6 → ⊥) → rowAt f (fieldsOf n) ≡ rowAt f (fieldsOf 0)
-unfolding fieldsOf
-other-field f n h = getD-set-other (fieldsOf 0) 6 f (free (8 * n)) (fixed 0 0) h
+other-field : (f n : ℕ) → (f ≡ 4 → ⊥) → rowAt f (rowsOf n) ≡ rowAt f (rowsOf 0)
+unfolding rowsOf
+other-field f n h = getD-set-other (rowsOf 0) 4 f (free (8 * n)) (fixed 0 0) h
 
-pub width-is : (f header : ℕ) → width f (rowAt f (fieldsOf 0) .bits) header ≡ rowAt f (fieldsOf (header % 16)) .bits
-unfolding width fieldsOf
-width-is f header = go (eqb f 6) refl
+pub width-is : (f header : ℕ) → width f (rowAt f (rowsOf 0) .bits) header ≡ rowAt f (rowsOf (header % 16)) .bits
+unfolding width rowsOf
+width-is f header = go (eqb f 4) refl
   where
-    go : (t : Bool) → eqb f 6 ≡ t → cond t (8 * (header % 16)) (rowAt f (fieldsOf 0) .bits) ≡ rowAt f (fieldsOf (header % 16)) .bits
-    go true e = sym (ap (λ (k : ℕ). rowAt k (fieldsOf (header % 16)) .bits) (eqb-true f 6 e))
-    go false e = sym (ap (λ (x : Field). x .bits) (other-field f (header % 16) (eqb-false f 6 e)))
+    go : (t : Bool) → eqb f 4 ≡ t → cond t (8 * (header % 16)) (rowAt f (rowsOf 0) .bits) ≡ rowAt f (rowsOf (header % 16)) .bits
+    go true e = sym (ap (λ (k : ℕ). rowAt k (rowsOf (header % 16)) .bits) (eqb-true f 4 e))
+    go false e = sym (ap (λ (x : Field). x .bits) (other-field f (header % 16) (eqb-false f 4 e)))
 
-pub bit-is : (f n : ℕ) → rowAt f (fieldsOf 0) .bit ≡ rowAt f (fieldsOf n) .bit
-unfolding fieldsOf
-bit-is f n = go (eqb f 6) refl
+pub bit-is : (f n : ℕ) → rowAt f (rowsOf 0) .bit ≡ rowAt f (rowsOf n) .bit
+unfolding rowsOf
+bit-is f n = go (eqb f 4) refl
   where
-    go : (t : Bool) → eqb f 6 ≡ t → rowAt f (fieldsOf 0) .bit ≡ rowAt f (fieldsOf n) .bit
-    go true e = let i = eqb-true f 6 e in rw i refl
-    go false e = sym (ap (λ (x : Field). x .bit) (other-field f n (eqb-false f 6 e)))
+    go : (t : Bool) → eqb f 4 ≡ t → rowAt f (rowsOf 0) .bit ≡ rowAt f (rowsOf n) .bit
+    go true e = let i = eqb-true f 4 e in rw i refl
+    go false e = sym (ap (λ (x : Field). x .bit) (other-field f n (eqb-false f 4 e)))
 
--- behind a field other than DLC and CRC the frame shows nothing
-nothing-behind : (f header field n : ℕ) (frame : List ℕ) (place : ℕ) → f < 12 → (f ≡ 5 → ⊥) → (f ≡ 7 → ⊥)
+-- the rows as the code asks for them: only behind the CRC must a bit be 1
+row-test : ℕ → Bool
+row-test f = leb (rowAt f (rowsOf 0) .bit) 2 && leb (6 * (rowAt f (rowsOf 0) .bit % 2)) f
+
+row-tested : T (everywhere row-test 9)
+unfolding row-test rowsOf
+row-tested = tt
+
+pub row-bits : (f : ℕ) → f < 9 → (rowAt f (rowsOf 0) .bit ≤ 2) × (6 * (rowAt f (rowsOf 0) .bit % 2) ≤ f)
+unfolding row-test
+row-bits f h =
+    let may = leb (rowAt f (rowsOf 0) .bit) 2 in
+    let must = leb (6 * (rowAt f (rowsOf 0) .bit % 2)) f in
+    let both = and-yes may must (everywhere-at row-test 9 row-tested f h) in
+    (leb-true _ _ (told may (both .0)), leb-true _ _ (told must (both .1)))
+  where
+    told : (t : Bool) → T t → t ≡ true
+    told true x = refl
+    told false x = absurd x
+
+-- behind a row other than DLC and CRC the frame shows nothing
+nothing-behind : (f header field n : ℕ) (frame : List ℕ) (place : ℕ) → f < 9 → (f ≡ 3 → ⊥) → (f ≡ 5 → ⊥)
     → length frame ≡ endOf f (header % 16) → Registers f header field n frame → shown frame place ≡ right
 unfolding crcStart
 nothing-behind f header field n frame place h not-dlc not-crc at registers = go (stage f (header % 16) h) registers
   where
-    known : 5 < f → dlcIn frame ≡ header % 16
+    known : 3 < f → dlcIn frame ≡ header % 16
     known = dlc-known f header field n frame registers
 
     go : Stage f (header % 16) → Registers f header field n frame → shown frame place ≡ right
@@ -74,95 +99,113 @@ nothing-behind f header field n frame place h not-dlc not-crc at registers = go 
     go (crc-bits g s e) r = absurd (not-crc g)
     go (ending g s o e) r = nothing-shown frame place (λ d. absurd (omega (arith, at))) (λ d. absurd (omega (arith, at, known (omega arith))))
 
--- into a field: its bits are all to come
-abbrev pub begun : Seen → ℕ → Seen
-begun seen count =
-    record { place = seen .place; run = seen .run; left = count; number = seen .number; header = seen .header; field = seen .field }
-
-pub field-begins : (line : List ℕ) (f : ℕ) (seen : Seen) (frame : List ℕ) (count : ℕ)
-    → f < 12 → count ≡ rowAt f (fieldsOf (bytes seen)) .bits → Between line f seen frame → Within line f (begun seen count) frame
-unfolding fieldsOf
-field-begins line f seen frame count h e b =
+-- into a row: its bits are all to come
+abbrev pub begun : List ℕ → Seen → ℕ → Seen
+begun line seen count =
     record {
-      leads = b .leads ∙ ap (λ (v : Verdict). onward v (rest line seen frame)) (sym (nothing count refl));
+      stop = least (seen .place + count) (length line);
+      end = seen .place + count;
+      place = seen .place;
+      raw = seen .raw;
+      number = seen .number;
+      header = seen .header;
+      field = seen .field;
+    }
+
+pub field-begins : (line : List ℕ) (f : ℕ) (seen : Seen) (run : Run) (frame : List ℕ) (count : ℕ)
+    → f < 9 → count ≡ rowAt f (rowsOf (bytes seen)) .bits → Between line f seen run frame → Within line f (begun line seen count) run count frame
+unfolding rowsOf
+field-begins line f seen run frame count h e b =
+    record {
+      leads = b .leads ∙ ap (λ (v : Verdict). onward v (rest line seen run frame)) (sym (nothing count refl));
+      end-is = refl;
+      stop-is = refl;
       at-is = end;
       from = omega (arith, b .at-is);
       registers = b .registers;
-      few = b .few;
+      told = b .told;
+      fresh = b .fresh;
+      reached = b .reached;
       behind = b .behind;
     }
   where
     end : length frame + count ≡ endOf f (bytes seen)
     end = omega (arith, b .at-is, e, end-is f (bytes seen))
 
-    some : (k : ℕ) → 0 < rowAt k (fieldsOf (bytes seen)) .bits → count ≡ 0 → f ≡ k → ⊥
+    some : (k : ℕ) → 0 < rowAt k (rowsOf (bytes seen)) .bits → count ≡ 0 → f ≡ k → ⊥
     some k p z i =
-        let same : rowAt f (fieldsOf (bytes seen)) .bits ≡ rowAt k (fieldsOf (bytes seen)) .bits = rw i refl in
+        let same : rowAt f (rowsOf (bytes seen)) .bits ≡ rowAt k (rowsOf (bytes seen)) .bits = rw i refl in
         omega (arith, e, same)
 
     nothing : (k : ℕ) → count ≡ k → pending k frame (seen .place) ≡ right
     nothing zero d =
-        nothing-behind f (seen .header) (seen .field) (seen .number) frame (seen .place - 1) h (some 5 (lit< tt) d) (some 7 (lit< tt) d)
+        nothing-behind f (seen .header) (seen .field) (seen .number) frame (seen .place - 1) h (some 3 (lit< tt) d) (some 5 (lit< tt) d)
         (omega (arith, end)) (b .registers)
     nothing (suc k) d = refl
 
--- before the first field
-pub line-begins : (line : List ℕ) → Between line 0 (record { place = 0; run = nothingSent; left = 0; number = 0; header = 0; field = 0 }) []
+-- before the first row
+pub line-begins : (line : List ℕ)
+    → Between line 0 (record { stop = 0; end = 0; place = 0; raw = 1; number = 0; header = 0; field = 0 }) nothingSent []
 unfolding scanned bits
 line-begins line =
     record {
       leads = refl;
       at-is = sym (first-start 0);
       registers = in-header (omega arith) refl (lit< tt);
-      few = omega arith;
+      told = λ h. none refl refl refl;
+      fresh = λ e. refl;
+      reached = omega arith;
       behind = omega arith;
     }
 
--- ---- behind a field's last bit
+-- ---- behind a row's last bit
 
 -- the registers do not change where no part ends
-passed-on : (f header field n : ℕ) (frame : List ℕ) → (f ≡ 5 → ⊥) → (f ≡ 6 → ⊥) → Registers f header field n frame
+passed-on : (f header field n : ℕ) (frame : List ℕ) → (f ≡ 3 → ⊥) → (f ≡ 4 → ⊥) → Registers f header field n frame
     → Registers (f + 1) header field n frame
 passed-on f header field n frame not-dlc not-data (in-header g e l) = in-header (omega (arith, not-dlc)) e l
 passed-on f header field n frame not-dlc not-data (in-data k g fine e l) = absurd (not-data g)
 passed-on f header field n frame not-dlc not-data (behind k g fine e l) = behind k (omega arith) fine e l
 
--- what the end of field f leads to
-abbrev pub Ends : List ℕ → ℕ → List ℕ → Step → Type 0
-Ends line f frame (Next next) = Between line (f + 1) next frame
-Ends line f frame (Refused refusal) = scanned line ≡ stopped refusal
+-- what the end of row f leads to
+abbrev pub Ends : List ℕ → ℕ → Run → List ℕ → Step → Type 0
+Ends line f run frame (Next next) = Between line (f + 1) next run frame
+Ends line f run frame (Refused refusal) = scanned line ≡ stopped refusal
 
-module _ (line : List ℕ) (f : ℕ) (seen : Seen) (frame : List ℕ) (h : f < 12) (w : Within line f seen frame) (z : seen .left ≡ 0) where
+module _ (line : List ℕ) (f : ℕ) (seen : Seen) (run : Run) (left : ℕ) (frame : List ℕ) (h : f < 9)
+    (w : Within line f seen run left frame) (z : left ≡ 0) where
   at : length frame ≡ endOf f (bytes seen)
   at = omega (arith, w .at-is)
 
-  leads : (v : Verdict) → shown frame (seen .place - 1) ≡ v → scanned line ≡ onward v (rest line seen frame)
+  leads : (v : Verdict) → shown frame (seen .place - 1) ≡ v → scanned line ≡ onward v (rest line seen run frame)
   leads v e =
-      w .leads ∙ ap (λ (k : ℕ). onward (pending k frame (seen .place)) (rest line seen frame)) z
-      ∙ ap (λ (u : Verdict). onward u (rest line seen frame)) e
+      w .leads ∙ ap (λ (k : ℕ). onward (pending k frame (seen .place)) (rest line seen run frame)) z
+      ∙ ap (λ (u : Verdict). onward u (rest line seen run frame)) e
 
-  nothing-here : (f ≡ 5 → ⊥) → (f ≡ 7 → ⊥) → shown frame (seen .place - 1) ≡ right
+  nothing-here : (f ≡ 3 → ⊥) → (f ≡ 5 → ⊥) → shown frame (seen .place - 1) ≡ right
   nothing-here not-dlc not-crc =
       nothing-behind f (seen .header) (seen .field) (seen .number) frame (seen .place - 1) h not-dlc not-crc at (w .registers)
 
-  other-ends : (f ≡ 5 → ⊥) → (f ≡ 6 → ⊥) → (f ≡ 7 → ⊥) → Ends line f frame (fieldEnd f seen)
-  unfolding fieldEnd
-  other-ends not-dlc not-data not-crc = rw (ne-eqb f 5 not-dlc, ne-eqb f 6 not-data, ne-eqb f 7 not-crc) (record {
+  other-ends : (f ≡ 3 → ⊥) → (f ≡ 4 → ⊥) → (f ≡ 5 → ⊥) → Ends line f run frame (partEnd f seen)
+  unfolding partEnd
+  other-ends not-dlc not-data not-crc = rw (ne-eqb f 3 not-dlc, ne-eqb f 4 not-data, ne-eqb f 5 not-crc) (record {
     leads = leads right (nothing-here not-dlc not-crc);
     at-is = at ∙ next-start f (bytes seen);
     registers = passed-on f (seen .header) (seen .field) (seen .number) frame not-dlc not-data (w .registers);
-    few = w .few;
+    told = λ g. w .told (omega (arith, g));
+    fresh = w .fresh;
+    reached = w .reached;
     behind = w .behind;
   })
 
-  header-ends : f ≡ 5 → endOf f (bytes seen) ≡ 19 → Ends line f frame (headerRead seen)
+  header-ends : f ≡ 3 → endOf f (bytes seen) ≡ 19 → Ends line f run frame (headerRead seen)
   unfolding headerRead crcStart
   header-ends i end = read (w .registers)
     where
       nineteen : length frame ≡ 19
       nineteen = at ∙ end
 
-      read : Registers f (seen .header) (seen .field) (seen .number) frame → Ends line f frame (headerRead seen)
+      read : Registers f (seen .header) (seen .field) (seen .number) frame → Ends line f run frame (headerRead seen)
       read (in-header g e l) = go (eqb (seen .number % 16) 1 || ltb 8 (seen .number % 16)) refl
         where
           n : ℕ
@@ -172,10 +215,11 @@ module _ (line : List ℕ) (f : ℕ) (seen : Seen) (frame : List ℕ) (h : f < 1
           there = dlc-read n frame nineteen e
 
           go : (t : Bool) → (eqb (n % 16) 1 || ltb 8 (n % 16)) ≡ t
-              → Ends line f frame (cond t (Refused (FieldLength (seen .place - 1))) (Next (record {
+              → Ends line f run frame (cond t (Refused (FieldLength (seen .place - 1))) (Next (record {
+                stop = seen .stop;
+                end = seen .end;
                 place = seen .place;
-                run = seen .run;
-                left = seen .left;
+                raw = seen .raw;
                 number = 0;
                 header = n;
                 field = seen .field;
@@ -184,27 +228,29 @@ module _ (line : List ℕ) (f : ℕ) (seen : Seen) (frame : List ℕ) (h : f < 1
           go false d =
               let taken = taken-dlc frame (rw there d) in
               let fine : Fine n = record { not-one = λ one. taken .0 (there ∙ one); few = omega (arith, taken .1, there) } in
-              let next : f + 1 ≡ 6 = omega arith in
+              let next : f + 1 ≡ 4 = omega arith in
               record {
                 leads = leads right (nothing-shown frame (seen .place - 1) (λ x. rw there d) (λ x. absurd (omega (arith, nineteen))));
                 at-is = nineteen ∙ sym (ap (λ (k : ℕ). startOf k (n % 16)) next ∙ data-start (n % 16));
                 registers =
                     subst (λ (k : ℕ). Registers k n (seen .field) 0 frame) (sym next)
                     (header-put (seen .field) n frame nineteen fine e);
-                few = omega (arith, nineteen, w .few);
+                told = λ g. w .told (omega (arith, g));
+                fresh = w .fresh;
+                reached = w .reached;
                 behind = w .behind;
               }
       read (in-data k g fine e l) = absurd (omega arith)
       read (behind k g fine e l) = absurd (omega arith)
 
-  data-ends : f ≡ 6 → endOf f (bytes seen) ≡ 19 + 8 * bytes seen → Ends line f frame (fieldRead seen)
+  data-ends : f ≡ 4 → endOf f (bytes seen) ≡ 19 + 8 * bytes seen → Ends line f run frame (fieldRead seen)
   unfolding fieldRead
   data-ends i end = read (w .registers)
     where
-      next : f + 1 ≡ 7
+      next : f + 1 ≡ 5
       next = omega arith
 
-      read : Registers f (seen .header) (seen .field) (seen .number) frame → Ends line f frame (fieldRead seen)
+      read : Registers f (seen .header) (seen .field) (seen .number) frame → Ends line f run frame (fieldRead seen)
       read (in-header g e l) = absurd (omega arith)
       read (in-data k g fine e l) =
           record {
@@ -213,16 +259,18 @@ module _ (line : List ℕ) (f : ℕ) (seen : Seen) (frame : List ℕ) (h : f < 1
             registers =
                 subst (λ (k : ℕ). Registers k (seen .header) (seen .number) 0 frame) (sym next)
                 (field-put (seen .header) (seen .number) k frame (at ∙ end) fine e);
-            few = w .few;
+            told = λ g. w .told (omega (arith, g));
+            fresh = w .fresh;
+            reached = w .reached;
             behind = w .behind;
           }
       read (behind k g fine e l) = absurd (omega arith)
 
-  crc-ends : f ≡ 7 → endOf f (bytes seen) ≡ 34 + 8 * bytes seen → Ends line f frame (crcRead seen)
+  crc-ends : f ≡ 5 → endOf f (bytes seen) ≡ 34 + 8 * bytes seen → Ends line f run frame (crcRead seen)
   unfolding crcRead crcStart
   crc-ends i end = read (w .registers)
     where
-      read : Registers f (seen .header) (seen .field) (seen .number) frame → Ends line f frame (crcRead seen)
+      read : Registers f (seen .header) (seen .field) (seen .number) frame → Ends line f run frame (crcRead seen)
       read (in-header g e l) = absurd (omega arith)
       read (in-data k g fine e l) = absurd (omega arith)
       read (behind k g fine e l) = go (crcRight frame) refl
@@ -233,33 +281,50 @@ module _ (line : List ℕ) (f : ℕ) (seen : Seen) (frame : List ℕ) (h : f < 1
           last : length frame ≡ 19 + 8 * dlcIn frame + 15
           last = omega (arith, at, end, dlc-known f (seen .header) (seen .field) (seen .number) frame (w .registers) (omega arith))
 
-          go : (t : Bool) → crcRight frame ≡ t → Ends line f frame (crcRead seen)
+          go : (t : Bool) → crcRight frame ≡ t → Ends line f run frame (crcRead seen)
           go true d = rw (sym there ∙ d) (record {
             leads = leads right (nothing-shown frame (seen .place - 1) (λ x. absurd (omega (arith, last))) (λ x. d));
             at-is = at ∙ next-start f (bytes seen);
             registers =
                 passed-on f (seen .header) (seen .field) (seen .number) frame (λ d. omega arith) (λ d. omega arith) (w .registers);
-            few = w .few;
+            told = λ g. w .told (omega (arith, g));
+            fresh = w .fresh;
+            reached = w .reached;
             behind = w .behind;
           })
           go false d = rw (sym there ∙ d) (leads _ (crc-refused frame (seen .place - 1) last d))
 
-  pub field-ends : Ends line f frame (fieldEnd f seen)
-  unfolding fieldEnd
-  field-ends = go (stage f (bytes seen) h)
+  part-ends : Ends line f run frame (partEnd f seen)
+  unfolding partEnd
+  part-ends = go (stage f (bytes seen) h)
     where
-      go : Stage f (bytes seen) → Ends line f frame (fieldEnd f seen)
+      go : Stage f (bytes seen) → Ends line f run frame (partEnd f seen)
       go (before-dlc g e) = other-ends (λ d. omega arith) (λ d. omega arith) (λ d. omega arith)
-      go (dlc g e) = rw (eq-eqb f 5 g) (header-ends g e)
-      go (data-bits g s e) = rw (ne-eqb f 5 (λ d. omega arith), eq-eqb f 6 g) (data-ends g e)
-      go (crc-bits g s e) = rw (ne-eqb f 5 (λ d. omega arith), ne-eqb f 6 (λ d. omega arith), eq-eqb f 7 g) (crc-ends g e)
+      go (dlc g e) = rw (eq-eqb f 3 g) (header-ends g e)
+      go (data-bits g s e) = rw (ne-eqb f 3 (λ d. omega arith), eq-eqb f 4 g) (data-ends g e)
+      go (crc-bits g s e) = rw (ne-eqb f 3 (λ d. omega arith), ne-eqb f 4 (λ d. omega arith), eq-eqb f 5 g) (crc-ends g e)
       go (ending g s o e) = other-ends (λ d. omega arith) (λ d. omega arith) (λ d. omega arith)
 
--- ---- behind the last field
+-- where reading stops in the row
+pub field-ends : (line : List ℕ) (f : ℕ) (seen : Seen) (run : Run) (left : ℕ) (frame : List ℕ) → f < 9 → Within line f seen run left frame
+    → seen .stop ≤ seen .place → Ends line f run frame (fieldEnd f seen)
+unfolding fieldEnd
+field-ends line f seen run left frame h w over = go (ltb (seen .place) (seen .end)) refl
+  where
+    go : (t : Bool) → ltb (seen .place) (seen .end) ≡ t
+        → Ends line f run frame (cond t (Refused (LineLength (seen .place))) (partEnd f seen))
+    go true d =
+        let before = ltb-true (seen .place) (seen .end) d in
+        missing line f seen run left frame h w (omega (arith, w .end-is))
+        (least-not (seen .end) (length line) (seen .place) (rw (w .stop-is) at over) before)
+    go false d =
+        part-ends line f seen run left frame h w (omega (arith, w .end-is, ltb-false (seen .place) (seen .end) d))
 
-module _ (line : List ℕ) (seen : Seen) (frame : List ℕ) (b : Between line 12 seen frame) where
+-- ---- behind the last row
+
+module _ (line : List ℕ) (seen : Seen) (run : Run) (frame : List ℕ) (b : Between line 9 seen run frame) where
   known : dlcIn frame ≡ bytes seen
-  known = dlc-known 12 (seen .header) (seen .field) (seen .number) frame (b .registers) (lit< tt)
+  known = dlc-known 9 (seen .header) (seen .field) (seen .number) frame (b .registers) (lit< tt)
 
   ended : complete frame ≡ true
   unfolding complete crcStart
@@ -268,15 +333,15 @@ module _ (line : List ℕ) (seen : Seen) (frame : List ℕ) (b : Between line 12
   pub line-longer : seen .place < length line → scanned line ≡ stopped (LineLength (seen .place))
   unfolding scan
   line-longer h =
-      b .leads ∙ ap (scan (seen .run) frame (seen .place)) (drop-cons line (seen .place) 0 h)
-      ∙ rw (bit-too-many (seen .run) frame (seen .place) (getD line (seen .place) 0) ended) refl
+      b .leads ∙ ap (scan run frame (seen .place)) (drop-cons line (seen .place) 0 h)
+      ∙ rw (bit-too-many run frame (seen .place) (getD line (seen .place) 0) ended) refl
 
   pub line-read : length line ≤ seen .place → Reads (Next seen) (scanned line)
   unfolding scan
   line-read h =
-      (frame, b .leads ∙ ap (scan (seen .run) frame (seen .place)) (drop-of-length-le line h) ∙ rw ended refl, holds (b .registers))
+      (frame, b .leads ∙ ap (scan run frame (seen .place)) (drop-of-length-le line h) ∙ rw ended refl, holds (b .registers))
     where
-      holds : Registers 12 (seen .header) (seen .field) (seen .number) frame → Holds seen frame
+      holds : Registers 9 (seen .header) (seen .field) (seen .number) frame → Holds seen frame
       holds (in-header g e l) = absurd (omega arith)
       holds (in-data k g fine e l) = absurd (omega arith)
       holds (behind k g fine e l) =

@@ -1,30 +1,35 @@
 -- While a line is read, what is left of it leads where the whole leads, and the registers hold the frame's bits. Assumes nothing.
---     Between, Within    before a field, and in it; behind its last bit what the frame shows is still to be looked at
---     Goes, bit-goes     a bit of the line: it is right, or the line is refused as the definition says
+--     Between, Within    before a row, and in it, with so many bits to come; behind its last bit what the frame shows is still to be looked at
+--     least-both, least-over, least-not    places before the one that comes first, and behind it
+--     Passes, pass-goes  a stuff bit, where one is due: it is right, or the line is refused as the definition says
+--     Goes, bit-goes     and so a bit of the frame, with the stuff bit before it
 --     must-stand         the bit that must stand next
---     number-small, few-enough    the number of a part and the count of the run leave room for one more bit
+--     number-small, end-small    the number of a part and the place of the row's end leave room for one more bit
+--     missing            the line ends in the row
 use mathlib.Core.Path.{_≡_, refl, sym, ap, _∙_}
 use mathlib.Core.Bool.{Bool, true, false, cond}
 use mathlib.Core.List.{List, [], _∷_, _++_}
 use mathlib.Core.Logic.{_⊎_, inl, inr}
 use Prim.Native.Nat.{ℕ, zero, suc, _+_, _-_, _*_, _%_, _^_, _≤_, _<_}
 use native.Mathlib.Nat.{lt-of-lt-of-le}
+use native.Mathlib.Numerals.{add-one}
 use native.Mathlib.Omega.{arith}
-use lib.Dec.{eqb, ltb}
+use lib.Dec.{eqb, leb, ltb}
 use lib.Pow.{pow-mono}
-use lib.ListN.{length, drop, length-drop}
-use lib.Seq.{drop-drop}
-use borrow.Author.Tests.{le-ltb, ne-eqb, ltb-true, ltb-false, eqb-true, eqb-false}
+use lib.ListN.{length, getD, drop, drop-of-length-le}
+use lib.Seq.{drop-cons}
+use borrow.Author.Tests.{le-ltb, lt-ltb, ne-eqb, ltb-true, ltb-false, leb-true, leb-false, eqb-true, eqb-false}
+use Rattle.bits.specs.declared.Run.{Run}
 use Rattle.bits.specs.Stuffing.{counted}
-use Rattle.bits.proofs.Stuffing.{counted-at-most}
 use Rattle.refusals.specs.declared.Refusal.the-variants.{LineByte, StuffBit, LineLength, FixedBit}
-use Rattle.line.specs.Fields.{fieldsOf}
+use Rattle.line.specs.Fields.{fieldsOf, form, either}
 use Rattle.line.specs.Scan.{dlcIn, complete, crcStart, stuffDue, mustBe, Verdict, right, shown, verdict, runWith, frameWith, Scanned, stopped, onward, scan, scanned}
-use Rattle.line.specs.Steps.{behindStuffBit, behindBit, dueIn, stuffBit, fieldBit, lineBit}
+use Rattle.line.specs.Steps.{rowsOf, least, bitAt, behindStuffBit, behindBit, dueIn, stuffBit, passed, fieldBit, andThen, lineBit}
 use Rattle.line.specs.declared.seen.Seen.{Seen}
 use Rattle.line.specs.declared.seen.Step.{Step}
 use Rattle.line.specs.declared.seen.Step.the-variants.{Next, Refused}
-use Rattle.line.proofs.Positions.{rowAt, startOf, endOf, data-from, ending-from, header-end, data-end, crc-end, end-within, early-or-known, must-is, due-is, not-complete}
+use Rattle.line.proofs.Positions.{rowAt, startOf, endOf, data-from, ending-from, header-end, data-end, crc-end, end-within, early-or-known, must-is, dueAt, due-is, not-complete}
+use Rattle.line.proofs.RawBits.{Tells, five-told, bit-told, told-more, told-stuff}
 use Rattle.line.proofs.Registers.{Registers, in-header, in-data, behind, bit-added, longer, data-length, behind-length, dlc-known}
 use Rattle.line.proofs.Verdicts.{byte-above-1, sixth-bit, stuff-bit, fixed-bit, frame-bit, nothing-shown}
 
@@ -33,79 +38,131 @@ abbrev pub bytes : Seen → ℕ
 bytes seen = seen .header % 16
 
 -- what is left of the line
-abbrev pub rest : List ℕ → Seen → List ℕ → Scanned
-rest line seen frame = scan (seen .run) frame (seen .place) (drop (seen .place) line)
+abbrev pub rest : List ℕ → Seen → Run → List ℕ → Scanned
+rest line seen run frame = scan run frame (seen .place) (drop (seen .place) line)
 
--- behind a field's last bit the frame is still to be looked at
+-- behind a row's last bit the frame is still to be looked at
 abbrev pub pending : ℕ → List ℕ → ℕ → Verdict
 pending zero frame place = shown frame (place - 1)
 pending (suc left) frame place = right
 
-pending-none : (left : ℕ) (frame : List ℕ) (place : ℕ) → 0 < left → pending left frame place ≡ right
+pub pending-none : (left : ℕ) (frame : List ℕ) (place : ℕ) → 0 < left → pending left frame place ≡ right
 pending-none zero frame place h = absurd (omega arith)
 pending-none (suc left) frame place h = refl
 
--- a run of five behind bits that stuff bits may follow; at most one longer for each bit behind those
-abbrev pub Few : Seen → List ℕ → Type 0
-Few seen frame = seen .run .count ≤ 5 + (length frame - (34 + 8 * bytes seen))
-
-pub record Between (line : List ℕ) (f : ℕ) (seen : Seen) (frame : List ℕ) : Type 0 where
-  pub leads : scanned line ≡ rest line seen frame
+-- before row f; the run is what the raw bits tell, up to the CRC
+pub record Between (line : List ℕ) (f : ℕ) (seen : Seen) (run : Run) (frame : List ℕ) : Type 0 where
+  pub leads : scanned line ≡ rest line seen run frame
   pub at-is : length frame ≡ startOf f (bytes seen)
   pub registers : Registers f (seen .header) (seen .field) (seen .number) frame
-  pub few : Few seen frame
+  pub told : f ≤ 5 → Tells (seen .raw) run
+  pub fresh : run .count ≡ 0 → length frame ≡ 0
+  pub reached : seen .place ≤ length line
   pub behind : length frame ≤ seen .place
 
-pub record Within (line : List ℕ) (f : ℕ) (seen : Seen) (frame : List ℕ) : Type 0 where
-  pub leads : scanned line ≡ onward (pending (seen .left) frame (seen .place)) (rest line seen frame)
-  pub at-is : length frame + seen .left ≡ endOf f (bytes seen)
+-- in row f, with so many bits to come
+pub record Within (line : List ℕ) (f : ℕ) (seen : Seen) (run : Run) (left : ℕ) (frame : List ℕ) : Type 0 where
+  pub leads : scanned line ≡ onward (pending left frame (seen .place)) (rest line seen run frame)
+  pub end-is : seen .place + left ≡ seen .end
+  pub stop-is : seen .stop ≡ least (seen .end) (length line)
+  pub at-is : length frame + left ≡ endOf f (bytes seen)
   pub from : startOf f (bytes seen) ≤ length frame
   pub registers : Registers f (seen .header) (seen .field) (seen .number) frame
-  pub few : Few seen frame
+  pub told : f ≤ 5 → Tells (seen .raw) run
+  pub fresh : run .count ≡ 0 → length frame ≡ 0
+  pub reached : seen .place ≤ length line
   pub behind : length frame ≤ seen .place
 
--- in a field, behind its first bit and before its last, nothing is shown
+-- places before the one that comes first, and behind it
+pub least-both : (a b k : ℕ) → k < least a b → (k < a) × (k < b)
+unfolding least
+least-both a b k h = go (ltb a b) refl h
+  where
+    go : (t : Bool) → ltb a b ≡ t → k < cond t a b → (k < a) × (k < b)
+    go true e l = (l, omega (arith, ltb-true a b e))
+    go false e l = (omega (arith, ltb-false a b e), l)
+
+pub least-over : (a b k : ℕ) → k < a → k < b → k < least a b
+unfolding least
+least-over a b k g h = go (ltb a b)
+  where
+    go : (t : Bool) → k < cond t a b
+    go true = g
+    go false = h
+
+pub least-not : (a b k : ℕ) → least a b ≤ k → k < a → b ≤ k
+unfolding least
+least-not a b k h g = go (ltb a b) h
+  where
+    go : (t : Bool) → cond t a b ≤ k → b ≤ k
+    go true l = absurd (omega arith)
+    go false l = l
+
+counted-some : (run : Run) (b : ℕ) → counted run b ≡ 0 → ⊥
+counted-some run b = go (eqb b (run .bit))
+  where
+    go : (t : Bool) → cond t (run .count + 1) 1 ≡ 0 → ⊥
+    go true e = omega arith
+    go false e = omega arith
+
+-- start of frame must be 0
+must-first : (frame : List ℕ) → length frame ≡ 0 → mustBe frame ≡ 0
+unfolding mustBe fieldsOf form
+must-first frame e = rw e refl
+
+-- in a row, behind its first bit and before its last, nothing is shown
 shown-inside : (f n : ℕ) (frame : List ℕ) (place : ℕ) → startOf f n < length frame → length frame < endOf f n
-    → (5 < f → dlcIn frame ≡ n) → shown frame place ≡ right
+    → (3 < f → dlcIn frame ≡ n) → shown frame place ≡ right
 unfolding crcStart
 shown-inside f n frame place from to known =
-    nothing-shown frame place (λ e. absurd (header e (ltb 5 f) refl))
-    (λ e. absurd (check e (early-or-known f n frame known to) (ltb 7 f) refl))
+    nothing-shown frame place (λ e. absurd (header e (ltb 3 f) refl))
+    (λ e. absurd (check e (early-or-known f n frame known to) (ltb 5 f) refl))
   where
-    header : length frame ≡ 19 → (t : Bool) → ltb 5 f ≡ t → ⊥
-    header e true d = omega (arith, from, data-from f n (ltb-true 5 f d))
-    header e false d = omega (arith, to, header-end f n (ltb-false 5 f d))
+    header : length frame ≡ 19 → (t : Bool) → ltb 3 f ≡ t → ⊥
+    header e true d = omega (arith, from, data-from f n (ltb-true 3 f d))
+    header e false d = omega (arith, to, header-end f n (ltb-false 3 f d))
 
-    check : length frame ≡ 19 + 8 * dlcIn frame + 15 → (length frame < 19) ⊎ (dlcIn frame ≡ n) → (t : Bool) → ltb 7 f ≡ t → ⊥
+    check : length frame ≡ 19 + 8 * dlcIn frame + 15 → (length frame < 19) ⊎ (dlcIn frame ≡ n) → (t : Bool) → ltb 5 f ≡ t → ⊥
     check e (inl early) t d = omega arith
-    check e (inr is) true d = omega (arith, from, ending-from f n (ltb-true 7 f d))
-    check e (inr is) false d = omega (arith, to, crc-end f n (ltb-false 7 f d))
+    check e (inr is) true d = omega (arith, from, ending-from f n (ltb-true 5 f d))
+    check e (inr is) false d = omega (arith, to, crc-end f n (ltb-false 5 f d))
 
--- what a step in field f leads to
+-- what passing a stuff bit in row f leads to: none is due behind it
+abbrev pub Passes : List ℕ → ℕ → Seen → ℕ → List ℕ → Step → Type 0
+Passes line f seen left frame (Next next) =
+    (run : Run) × Within line f next run left frame × (stuffDue run frame ≡ false) × (next .place < next .stop) × (seen .place ≤ next .place)
+Passes line f seen left frame (Refused refusal) = scanned line ≡ stopped refusal
+
+-- what a step in row f leads to
 abbrev pub Goes : List ℕ → ℕ → Seen → Step → Type 0
-Goes line f seen (Next next) = (frame : List ℕ) × Within line f next frame × (seen .place < length line) × (next .place ≡ seen .place + 1)
+Goes line f seen (Next next) =
+    (run : Run) × (left : ℕ) × (frame : List ℕ) × Within line f next run left frame × (seen .place < length line) × (seen .place < next .place)
 Goes line f seen (Refused refusal) = scanned line ≡ stopped refusal
 
--- in a field with bits to come
-module _ (line : List ℕ) (f : ℕ) (seen : Seen) (frame : List ℕ) (h : f < 12) (w : Within line f seen frame) (some : 0 < seen .left) where
+-- in a row with bits to come
+module _ (line : List ℕ) (f : ℕ) (seen : Seen) (run : Run) (left : ℕ) (frame : List ℕ) (h : f < 9)
+    (w : Within line f seen run left frame) (some : 0 < left) where
   to : length frame < endOf f (bytes seen)
   to = omega (arith, w .at-is)
 
-  known : 5 < f → dlcIn frame ≡ bytes seen
+  known : 3 < f → dlcIn frame ≡ bytes seen
   known = dlc-known f (seen .header) (seen .field) (seen .number) frame (w .registers)
 
   begun : complete frame ≡ false
   begun = not-complete f (bytes seen) frame known (w .from) to h
 
-  leads : scanned line ≡ rest line seen frame
-  leads = w .leads ∙ ap (λ (v : Verdict). onward v (rest line seen frame)) (pending-none (seen .left) frame (seen .place) some)
+  leads : scanned line ≡ rest line seen run frame
+  leads = w .leads ∙ ap (λ (v : Verdict). onward v (rest line seen run frame)) (pending-none left frame (seen .place) some)
 
-  missing : scan (seen .run) frame (seen .place) [] ≡ stopped (LineLength (seen .place))
+  ends : (r : Run) (place : ℕ) → scan r frame place [] ≡ stopped (LineLength place)
   unfolding scan
-  missing = rw begun refl
+  ends r place = rw begun refl
+
+  pub missing : length line ≤ seen .place → scanned line ≡ stopped (LineLength (seen .place))
+  missing e = leads ∙ ap (scan run frame (seen .place)) (drop-of-length-le line e) ∙ ends run (seen .place)
 
   -- the bit that must stand next
-  pub must-stand : mustBe frame ≡ rowAt f (fieldsOf (bytes seen)) .bit
+  pub must-stand : mustBe frame ≡ rowAt f (rowsOf (bytes seen)) .bit
   must-stand = must-is f (bytes seen) frame known (w .from) to
 
   pub number-small : seen .number < 2 ^ 63
@@ -121,121 +178,208 @@ module _ (line : List ℕ) (f : ℕ) (seen : Seen) (frame : List ℕ) (h : f < 1
       small (behind k g fine e l) =
           below k l (omega (arith, to, end-within f (bytes seen) h, behind-length (seen .header) (seen .field) (seen .number) k frame e))
 
-  pub few-enough : seen .run .count < 255
-  few-enough = omega (arith, to, w .few, end-within f (bytes seen) h)
+  pub end-small : seen .end ≤ length line + 164
+  end-small = omega (arith, w .end-is, w .at-is, w .reached, end-within f (bytes seen) h)
 
-  module _ (b : ℕ) (l : List ℕ) (e : drop (seen .place) line ≡ b ∷ l) where
-    went : (v : Verdict) → verdict (seen .run) frame (seen .place) b ≡ v
-        → scanned line ≡ onward v (scan (runWith (seen .run) b) (frameWith (seen .run) frame b) (seen .place + 1) l)
-    unfolding scan
+  -- a stuff bit is due as the raw bits tell
+  due-told : stuffDue run frame ≡ dueIn f (seen .raw)
+  unfolding dueIn
+  due-told = due-is f (bytes seen) frame known (w .from) to run ∙ go (ltb 5 f) refl
+    where
+      go : (t : Bool) → ltb 5 f ≡ t → dueAt f run ≡ dueIn f (seen .raw)
+      go true e = rw e refl
+      go false e = sym (five-told f (seen .raw) run (w .told (ltb-false 5 f e)))
+
+  -- where one is due, the run is five long and the raw bits are looked at
+  due-five : stuffDue run frame ≡ true → (f ≤ 5) × (run .count ≡ 5)
+  due-five due = go (ltb 5 f) refl (sym (due-is f (bytes seen) frame known (w .from) to run) ∙ due)
+    where
+      go : (t : Bool) → ltb 5 f ≡ t → cond t false (eqb (run .count) 5) ≡ true → (f ≤ 5) × (run .count ≡ 5)
+      go true e d = let z : _≡_ {A = ℕ} 0 1 = cc in absurd (omega arith)
+      go false e d = (ltb-false 5 f e, eqb-true (run .count) 5 d)
+
+  module _ (inside : seen .place < length line) where
+    b : ℕ
+    b = bitAt line seen
+
+    went : (v : Verdict) → verdict run frame (seen .place) b ≡ v
+        → scanned line ≡ onward v (scan (runWith run b) (frameWith run frame b) (seen .place + 1) (drop (seen .place + 1) line))
+    unfolding scan b
     went v d =
-        leads ∙ ap (scan (seen .run) frame (seen .place)) e
-        ∙ ap (λ (u : Verdict). onward u (scan (runWith (seen .run) b) (frameWith (seen .run) frame b) (seen .place + 1) l)) d
+        let here : drop (seen .place) line ≡ b ∷ drop (seen .place + 1) line =
+        drop-cons line (seen .place) 0 inside ∙ ap (λ (k : ℕ). b ∷ drop k line) (sym (add-one (seen .place))) in
+        leads ∙ ap (scan run frame (seen .place)) here
+        ∙ ap (λ (u : Verdict). onward u (scan (runWith run b) (frameWith run frame b) (seen .place + 1) (drop (seen .place + 1) line))) d
 
-    further : l ≡ drop (seen .place + 1) line
-    further = sym (ap (drop 1) e) ∙ drop-drop 1 (seen .place) line
+    -- ---- a stuff bit
 
-    inside : seen .place < length line
-    inside =
-        let long : length (drop (seen .place) line) ≡ suc (length l) = ap length e in
-        omega (arith, long, length-drop (seen .place) line)
+    module _ (due : stuffDue run frame ≡ true) (bit : b ≤ 1) (n : b ≡ run .bit → ⊥) where
+      single : counted run b ≡ 1
+      single = simp (ne-eqb b (run .bit) n)
 
-    module _ (bit : b ≤ 1) where
-      within-stuff : stuffDue (seen .run) frame ≡ true → (b ≡ seen .run .bit → ⊥) → Within line f (behindStuffBit b seen) frame
-      unfolding runWith frameWith
-      within-stuff due n =
-          let left-is = pending-none (seen .left) frame (seen .place + 1) some in
-          let one : counted (seen .run) b ≡ 1 = simp (ne-eqb b (seen .run .bit) n) in
+      stuffed-on : scanned line ≡ scan (runWith run b) frame (seen .place + 1) (drop (seen .place + 1) line)
+      unfolding frameWith
+      stuffed-on = went right (stuff-bit run frame (seen .place) b begun bit due n) ∙ rw due refl
+
+      within-stuff : seen .place + 1 ≤ length line → Within line f (behindStuffBit line seen) (runWith run b) left frame
+      unfolding runWith
+      within-stuff reached =
           record {
-            leads = rw (left-is, ← further) (went right (stuff-bit (seen .run) frame (seen .place) b begun bit due n) ∙ rw due refl);
+            leads = rw (pending-none left frame (seen .place + 1) some) stuffed-on;
+            end-is = omega (arith, w .end-is);
+            stop-is = refl;
             at-is = w .at-is;
             from = w .from;
             registers = w .registers;
-            few = rw one (omega arith);
+            told = λ g. told-stuff (seen .raw) b run (omega arith) n (due-five due .1) (w .told g);
+            fresh = λ e. absurd (counted-some run b e);
+            reached = reached;
             behind = omega (arith, w .behind);
           }
 
-      stuff-goes : stuffDue (seen .run) frame ≡ true → Goes line f seen (stuffBit b seen)
-      unfolding stuffBit
-      stuff-goes due = go (eqb b (seen .run .bit)) refl
-        where
-          go : (t : Bool) → eqb b (seen .run .bit) ≡ t
-              → Goes line f seen (cond t (Refused (StuffBit (seen .place))) (Next (behindStuffBit b seen)))
-          go true d = went _ (sixth-bit (seen .run) frame (seen .place) b begun bit due (eqb-true _ _ d))
-          go false d = (frame, within-stuff due (eqb-false _ _ d), inside, refl)
+      none-due : stuffDue (runWith run b) frame ≡ false
+      unfolding stuffDue runWith
+      none-due = rw single refl
 
+    -- one place on
+    onto : seen .place + 1 ≤ length line
+    onto = omega (arith, inside)
+
+    before : seen .place + 1 < seen .end + 1
+    before = omega (arith, w .end-is)
+
+    along : seen .place ≤ seen .place + 1
+    along = omega arith
+
+    stuff-goes : stuffDue run frame ≡ true → Passes line f seen left frame (stuffBit line seen)
+    unfolding stuffBit b
+    stuff-goes due = byte (ltb 1 b) refl
+      where
+        last : run .bit ≡ seen .raw % 2
+        last = bit-told (seen .raw) run (w .told (due-five due .0)) (due-five due .1)
+
+        longer-line : b ≤ 1 → (b ≡ run .bit → ⊥) → (t : Bool) → leb (length line) (seen .place + 1) ≡ t
+            → Passes line f seen left frame (cond t (Refused (LineLength (seen .place + 1))) (Next (behindStuffBit line seen)))
+        longer-line bit n true d =
+            stuffed-on due bit n ∙ ap (scan (runWith run b) frame (seen .place + 1)) (drop-of-length-le line (leb-true _ _ d))
+            ∙ ends (runWith run b) (seen .place + 1)
+        longer-line bit n false d =
+            (runWith run b, within-stuff due bit n onto, none-due due bit n, least-over _ _ _ before (leb-false _ _ d), along)
+
+        sixth : b ≤ 1 → (t : Bool) → eqb b (seen .raw % 2) ≡ t
+            → Passes line f seen left frame
+            (cond t (Refused (StuffBit (seen .place)))
+            (cond (leb (length line) (seen .place + 1)) (Refused (LineLength (seen .place + 1))) (Next (behindStuffBit line seen))))
+        sixth bit true d = went _ (sixth-bit run frame (seen .place) b begun bit due (eqb-true _ _ d ∙ sym last))
+        sixth bit false d = longer-line bit (λ e. eqb-false _ _ d (e ∙ last)) (leb (length line) (seen .place + 1)) refl
+
+        byte : (t : Bool) → ltb 1 b ≡ t
+            → Passes line f seen left frame
+            (cond t (Refused (LineByte (seen .place)))
+            (cond (eqb b (seen .raw % 2)) (Refused (StuffBit (seen .place)))
+            (cond (leb (length line) (seen .place + 1)) (Refused (LineLength (seen .place + 1))) (Next (behindStuffBit line seen)))))
+        byte true d = went _ (byte-above-1 run frame (seen .place) b begun (ltb-true _ _ d))
+        byte false d = sixth (ltb-false _ _ d) (eqb b (seen .raw % 2)) refl
+
+    pub pass-goes : Passes line f seen left frame (passed f line seen)
+    unfolding passed
+    pass-goes = go (dueIn f (seen .raw)) refl
+      where
+        go : (t : Bool) → dueIn f (seen .raw) ≡ t → Passes line f seen left frame (cond t (stuffBit line seen) (Next seen))
+        go true d = stuff-goes (due-told ∙ d)
+        go false d =
+            (run, w, due-told ∙ d, rw (w .stop-is) (least-over (seen .end) (length line) (seen .place) (omega (arith, w .end-is)) inside), omega arith)
+
+    -- ---- a bit of the frame
+
+    module _ (due : stuffDue run frame ≡ false) where
       -- the bits with this one
       more : List ℕ
       more = frame ++ (b ∷ [])
 
-      added : Registers f (seen .header) (seen .field) (seen .number * 2 + b) more
-      unfolding more
-      added = bit-added f (seen .header) (seen .field) (seen .number) frame b (omega arith) (w .registers)
+      module _ (bit : b ≤ 1) where
+        added : Registers f (seen .header) (seen .field) (seen .number * 2 + b) more
+        unfolding more
+        added = bit-added f (seen .header) (seen .field) (seen .number) frame b (omega arith) (w .registers)
 
-      -- behind the field's last bit what the frame shows is left for later; before that it shows nothing
-      pending-is : pending (seen .left - 1) more (seen .place + 1) ≡ shown more (seen .place)
-      unfolding more
-      pending-is = go (seen .left - 1) refl
+        -- behind the row's last bit what the frame shows is left for later; before that it shows nothing
+        pending-is : pending (left - 1) more (seen .place + 1) ≡ shown more (seen .place)
+        unfolding more
+        pending-is = go (left - 1) refl
+          where
+            go : (k : ℕ) → left - 1 ≡ k → pending k more (seen .place + 1) ≡ shown more (seen .place)
+            go zero d = ap (shown more) (omega arith)
+            go (suc k) d =
+                sym (shown-inside f (bytes seen) more (seen .place) (omega (arith, w .from, longer frame b)) (omega (arith, w .at-is, longer frame b))
+                (dlc-known f (seen .header) (seen .field) (seen .number * 2 + b) more added))
+
+        told-on : (mustBe frame ≡ 1 - b → ⊥) → f ≤ 5 → Tells (seen .raw * 2 % 2 ^ 64 + b) (runWith run b)
+        told-on n g =
+            told-more (seen .raw) b run (omega arith)
+            (λ e. let zero-is = must-first frame (w .fresh e) in zero-bit zero-is)
+            (λ e. not-five e) (w .told g)
+          where
+            zero-bit : mustBe frame ≡ 0 → b ≡ 0
+            zero-bit e = go (eqb b 0) refl
+              where
+                go : (t : Bool) → eqb b 0 ≡ t → b ≡ 0
+                go true d = eqb-true b 0 d
+                go false d = let other = eqb-false b 0 d in absurd (n (e ∙ omega arith))
+
+            not-five : run .count ≡ 5 → ⊥
+            not-five =
+                eqb-false _ _ (rw (le-ltb 5 f g) at (sym (due-is f (bytes seen) frame known (w .from) to run) ∙ due))
+
+        within-bit : (mustBe frame ≡ 1 - b → ⊥) → Within line f (behindBit b seen) (runWith run b) (left - 1) more
+        unfolding runWith frameWith more
+        within-bit n =
+            record {
+              leads = rw pending-is (went _ (frame-bit run frame (seen .place) b begun bit due n) ∙ rw due refl);
+              end-is = omega (arith, w .end-is);
+              stop-is = w .stop-is;
+              at-is = omega (arith, w .at-is, longer frame b);
+              from = omega (arith, w .from, longer frame b);
+              registers = added;
+              told = told-on n;
+              fresh = λ e. absurd (counted-some run b e);
+              reached = omega (arith, inside);
+              behind = omega (arith, w .behind, longer frame b);
+            }
+
+      field-goes : (must : ℕ) → mustBe frame ≡ must → Goes line f seen (fieldBit must line seen)
+      unfolding fieldBit b
+      field-goes must m = byte (ltb 1 b) refl
         where
-          go : (k : ℕ) → seen .left - 1 ≡ k → pending k more (seen .place + 1) ≡ shown more (seen .place)
-          go zero d = ap (shown more) (omega arith)
-          go (suc k) d =
-              sym (shown-inside f (bytes seen) more (seen .place) (omega (arith, w .from, longer frame b)) (omega (arith, w .at-is, longer frame b))
-              (dlc-known f (seen .header) (seen .field) (seen .number * 2 + b) more added))
+          fixed-goes : b ≤ 1 → (t : Bool) → eqb must (1 - b) ≡ t
+              → Goes line f seen (cond t (Refused (FixedBit (seen .place))) (Next (behindBit b seen)))
+          fixed-goes bit true d = went _ (fixed-bit run frame (seen .place) b begun bit due (m ∙ eqb-true _ _ d))
+          fixed-goes bit false d = (runWith run b, left - 1, more, within-bit bit (λ e. eqb-false _ _ d (sym m ∙ e)), inside, omega arith)
 
-      few-more : stuffDue (seen .run) frame ≡ false → Few (behindBit b seen) more
-      unfolding more runWith dueIn
-      few-more due = go (ltb 7 f) refl
-        where
-          longest : counted (seen .run) b ≤ seen .run .count + 1
-          longest = counted-at-most (seen .run) b
+          byte : (t : Bool) → ltb 1 b ≡ t
+              → Goes line f seen
+              (cond t (Refused (LineByte (seen .place))) (cond (eqb must (1 - b)) (Refused (FixedBit (seen .place))) (Next (behindBit b seen))))
+          byte true d = went _ (byte-above-1 run frame (seen .place) b begun (ltb-true _ _ d))
+          byte false d = fixed-goes (ltb-false _ _ d) (eqb must (1 - b)) refl
 
-          not-five : f ≤ 7 → seen .run .count ≡ 5 → ⊥
-          not-five g = eqb-false _ _ (rw (le-ltb 7 f g) at (sym (due-is f (bytes seen) frame known (w .from) to (seen .run)) ∙ due))
+-- a bit of the line, where the row's bits must be this one
+pub bit-goes : (line : List ℕ) (f : ℕ) (seen : Seen) (run : Run) (left : ℕ) (frame : List ℕ) → f < 9 → Within line f seen run left frame
+    → seen .place < seen .stop → (must : ℕ) → mustBe frame ≡ must → Goes line f seen (lineBit f must line seen)
+unfolding lineBit
+bit-goes line f seen run left frame h w before must m = go (passed f line seen) (pass-goes line f seen run left frame h w some (both .1))
+  where
+    both : (seen .place < seen .end) × (seen .place < length line)
+    both = least-both (seen .end) (length line) (seen .place) (rw (w .stop-is) at before)
 
-          go : (t : Bool) → ltb 7 f ≡ t → Few (behindBit b seen) more
-          go true d = omega (arith, longest, w .few, w .from, longer frame b, ending-from f (bytes seen) (ltb-true 7 f d))
-          go false d =
-              let over = ltb-false 7 f d in
-              omega (arith, longest, not-five over, w .few, to, crc-end f (bytes seen) over)
+    some : 0 < left
+    some = omega (arith, w .end-is, both .0)
 
-      within-bit : stuffDue (seen .run) frame ≡ false → (mustBe frame ≡ 1 - b → ⊥) → Within line f (behindBit b seen) more
-      unfolding runWith frameWith more
-      within-bit due n =
-          record {
-            leads =
-                rw (pending-is, ← further)
-                (went _ (frame-bit (seen .run) frame (seen .place) b begun bit due n) ∙ rw due refl);
-            at-is = omega (arith, w .at-is, longer frame b);
-            from = omega (arith, w .from, longer frame b);
-            registers = added;
-            few = few-more due;
-            behind = omega (arith, w .behind, longer frame b);
-          }
+    further : (next : Seen) (s : Step) → seen .place ≤ next .place → seen .place < length line → Goes line f next s → Goes line f seen s
+    further next (Next last) l i g = (g .0, g .1, g .2, g .3, i, omega (arith, g .5))
+    further next (Refused refusal) l i g = g
 
-      field-goes : (must : ℕ) → mustBe frame ≡ must → stuffDue (seen .run) frame ≡ false → Goes line f seen (fieldBit b must seen)
-      unfolding fieldBit
-      field-goes must m due = go (eqb must (1 - b)) refl
-        where
-          go : (t : Bool) → eqb must (1 - b) ≡ t → Goes line f seen (cond t (Refused (FixedBit (seen .place))) (Next (behindBit b seen)))
-          go true d = went _ (fixed-bit (seen .run) frame (seen .place) b begun bit due (m ∙ eqb-true _ _ d))
-          go false d = (more, within-bit due (λ e. eqb-false _ _ d (sym m ∙ e)), inside, refl)
-
-  -- a bit of the line, where the field's bits must be this one
-  pub bit-goes : (must : ℕ) → mustBe frame ≡ must → Goes line f seen (lineBit f must seen (drop (seen .place) line))
-  unfolding lineBit
-  bit-goes must m = go (drop (seen .place) line) refl
-    where
-      next : (b : ℕ) (l : List ℕ) (e : drop (seen .place) line ≡ b ∷ l) → b ≤ 1 → (t : Bool) → dueIn f (seen .run) ≡ t
-          → Goes line f seen (cond t (stuffBit b seen) (fieldBit b must seen))
-      next b l e bit true d = stuff-goes b l e bit (due-is f (bytes seen) frame known (w .from) to (seen .run) ∙ d)
-      next b l e bit false d = field-goes b l e bit must m (due-is f (bytes seen) frame known (w .from) to (seen .run) ∙ d)
-
-      byte : (b : ℕ) (l : List ℕ) (e : drop (seen .place) line ≡ b ∷ l) (t : Bool) → ltb 1 b ≡ t
-          → Goes line f seen (cond t (Refused (LineByte (seen .place))) (cond (dueIn f (seen .run)) (stuffBit b seen) (fieldBit b must seen)))
-      byte b l e true d = went b l e _ (byte-above-1 (seen .run) frame (seen .place) b begun (ltb-true _ _ d))
-      byte b l e false d = next b l e (ltb-false _ _ d) (dueIn f (seen .run)) refl
-
-      go : (l : List ℕ) → drop (seen .place) line ≡ l → Goes line f seen (lineBit f must seen l)
-      go [] e = leads ∙ ap (scan (seen .run) frame (seen .place)) e ∙ missing
-      go (b ∷ l) e = byte b l e (ltb 1 b) refl
+    go : (s : Step) → Passes line f seen left frame s → Goes line f seen (andThen s (fieldBit must line))
+    go (Next next) (r, v, due, l, k) =
+        let inner = least-both (next .end) (length line) (next .place) (rw (v .stop-is) at l) in
+        further next (fieldBit must line next) k (both .1)
+        (field-goes line f next r left frame h v some (inner .1) due must m)
+    go (Refused refusal) e = e

@@ -1,43 +1,108 @@
--- The four ways of a bit of the line. Assumes nothing.
---     bit-missing    the line ends before it
---     bit-above-1    it is no bit
---     bit-stuff      a stuff bit is due
---     bit-field      it is a bit of the field
-use mathlib.Core.Path.{_≡_, refl}
-use mathlib.Core.Bool.{true, false}
+-- The ways of a bit of the line. Assumes nothing.
+--     above-most      it is more than the row allows
+--     ending-is       it is a bit behind the CRC
+--     plain-is        it is a bit that no row before that refuses
+--     passed-inside   behind a stuff bit there is a bit
+--     passed-on, passed-refused    with the stuff bit before it
+use mathlib.Core.Path.{_≡_, refl, sym, ap, _∙_}
+use mathlib.Core.Bool.{Bool, true, false, cond}
 use mathlib.Core.List.{List}
-use Prim.Native.Nat.{ℕ, _≤_, _<_}
-use lib.ListN.{length, getD, drop, drop-of-length-le}
-use lib.Seq.{drop-cons}
-use borrow.Author.Tests.{lt-ltb, le-ltb}
-use Rattle.refusals.specs.declared.Refusal.the-variants.{LineByte, LineLength}
-use Rattle.line.specs.Steps.{dueIn, stuffBit, fieldBit, lineBit}
+use Prim.Native.Nat.{ℕ, _+_, _-_, _*_, _/_, _%_, _≤_, _<_}
+use native.Mathlib.Omega.{arith}
+use lib.Dec.{eqb, leb, ltb}
+use lib.ListN.{length}
+use borrow.Author.Tests.{lt-ltb, le-ltb, eq-eqb, ne-eqb, ltb-true, ltb-false, leb-false, eqb-true, eqb-false}
+use Rattle.refusals.specs.declared.Refusal.{Refusal}
+use Rattle.refusals.specs.declared.Refusal.the-variants.{LineByte, StuffBit, LineLength, FixedBit}
+use Rattle.line.specs.Steps.{bitAt, behindStuffBit, behindBit, dueIn, stuffBit, passed, aboveMost, endingBit, fieldBit, andThen, lineBit}
 use Rattle.line.specs.declared.seen.Seen.{Seen}
 use Rattle.line.specs.declared.seen.Step.{Step}
-use Rattle.line.specs.declared.seen.Step.the-variants.{Refused}
+use Rattle.line.specs.declared.seen.Step.the-variants.{Next, Refused}
 
-module _ (line : List ℕ) (f must : ℕ) (seen : Seen) where
-  -- the step at what is left of the line, and the bit there
-  abbrev step : Step
-  step = lineBit f must seen (drop (seen .place) line)
+module _ (line : List ℕ) (must : ℕ) (seen : Seen) (may : must ≤ 2) where
+  bit : ℕ
+  bit = bitAt line seen
 
-  abbrev bit : ℕ
-  bit = getD line (seen .place) 0
+  no-bit : 1 < bit → Refused (LineByte (seen .place)) ≡ fieldBit must line seen
+  unfolding fieldBit bit
+  no-bit h = simp (lt-ltb 1 bit h)
 
-  pub bit-missing : length line ≤ seen .place → Refused (LineLength (seen .place)) ≡ step
-  unfolding lineBit
-  bit-missing h = rw (drop-of-length-le line h) refl
+  wrong-bit : bit ≤ 1 → must ≡ 1 - bit → Refused (FixedBit (seen .place)) ≡ fieldBit must line seen
+  unfolding fieldBit bit
+  wrong-bit h e = simp (le-ltb 1 bit h, eq-eqb must (1 - bit) e)
 
-  module _ (h : seen .place < length line) where
-    pub bit-above-1 : 1 < bit → Refused (LineByte (seen .place)) ≡ step
-    unfolding lineBit
-    bit-above-1 l = rw (drop-cons line (seen .place) 0 h, lineBit, lt-ltb _ _ l) refl
+  right-bit : bit ≤ 1 → (must ≡ 1 - bit → ⊥) → Next (behindBit bit seen) ≡ fieldBit must line seen
+  unfolding fieldBit bit
+  right-bit h n = simp (le-ltb 1 bit h, ne-eqb must (1 - bit) n)
 
-    module _ (l : bit ≤ 1) where
-      pub bit-stuff : dueIn f (seen .run) ≡ true → stuffBit bit seen ≡ step
-      unfolding lineBit
-      bit-stuff d = rw (drop-cons line (seen .place) 0 h, lineBit, le-ltb _ _ l, d) refl
+  pub above-most : (must + 1) / 2 < bitAt line seen → aboveMost must (bitAt line seen) (seen .place) ≡ fieldBit must line seen
+  unfolding aboveMost bit
+  above-most h = go (eqb (must + bit) 1) refl
+    where
+      go : (t : Bool) → eqb (must + bit) 1 ≡ t
+          → cond t (Refused (FixedBit (seen .place))) (Refused (LineByte (seen .place))) ≡ fieldBit must line seen
+      go true d = let sum = eqb-true (must + bit) 1 d in wrong-bit (omega arith) (omega arith)
+      go false d = let sum = eqb-false (must + bit) 1 d in no-bit (omega arith)
 
-      pub bit-field : dueIn f (seen .run) ≡ false → fieldBit bit must seen ≡ step
-      unfolding lineBit
-      bit-field d = rw (drop-cons line (seen .place) 0 h, lineBit, le-ltb _ _ l, d) refl
+  module _ (low : bitAt line seen ≤ (must + 1) / 2) where
+    pub ending-is : endingBit must (bitAt line seen) seen ≡ fieldBit must line seen
+    unfolding endingBit bit
+    ending-is = go (ltb bit (must % 2)) refl
+      where
+        go : (t : Bool) → ltb bit (must % 2) ≡ t
+            → cond t (Refused (FixedBit (seen .place))) (Next (behindBit bit seen)) ≡ fieldBit must line seen
+        go true d = let less = ltb-true bit (must % 2) d in wrong-bit (omega arith) (omega arith)
+        go false d = let more = ltb-false bit (must % 2) d in right-bit (omega arith) (λ e. omega arith)
+
+    pub plain-is : (f : ℕ) → 6 * (must % 2) ≤ f → f ≤ 5 → Next (behindBit (bitAt line seen) seen) ≡ fieldBit must line seen
+    unfolding bit
+    plain-is f g h = right-bit (omega arith) (λ e. omega arith)
+
+-- ---- with the stuff bit before it
+
+-- what a step keeps
+abbrev Inside : List ℕ → Seen → Step → Type 0
+Inside line seen (Next next) = (next .place < length line) × (next .number ≡ seen .number)
+Inside line seen (Refused refusal) = Unit {0}
+
+inside : (line : List ℕ) (f : ℕ) (seen : Seen) → seen .place < length line → Inside line seen (passed f line seen)
+unfolding passed stuffBit
+inside line f seen h = due (dueIn f (seen .raw))
+  where
+    longer : (t : Bool) → leb (length line) (seen .place + 1) ≡ t
+        → Inside line seen (cond t (Refused (LineLength (seen .place + 1))) (Next (behindStuffBit line seen)))
+    longer true e = tt
+    longer false e = (leb-false _ _ e, refl)
+
+    sixth : (t : Bool)
+        → Inside line seen
+        (cond t (Refused (StuffBit (seen .place)))
+        (cond (leb (length line) (seen .place + 1)) (Refused (LineLength (seen .place + 1))) (Next (behindStuffBit line seen))))
+    sixth true = tt
+    sixth false = longer (leb (length line) (seen .place + 1)) refl
+
+    byte : (t : Bool)
+        → Inside line seen
+        (cond t (Refused (LineByte (seen .place)))
+        (cond (eqb (bitAt line seen) (seen .raw % 2)) (Refused (StuffBit (seen .place)))
+        (cond (leb (length line) (seen .place + 1)) (Refused (LineLength (seen .place + 1))) (Next (behindStuffBit line seen)))))
+    byte true = tt
+    byte false = sixth (eqb (bitAt line seen) (seen .raw % 2))
+
+    due : (t : Bool) → Inside line seen (cond t (stuffBit line seen) (Next seen))
+    due true = byte (ltb 1 (bitAt line seen))
+    due false = (h, refl)
+
+pub passed-inside : (line : List ℕ) (f : ℕ) (seen next : Seen) → seen .place < length line → Next next ≡ passed f line seen
+    → (next .place < length line) × (next .number ≡ seen .number)
+passed-inside line f seen next h e = rw (← e) at (inside line f seen h)
+
+pub passed-on : (line : List ℕ) (f must : ℕ) (seen next : Seen) → Next next ≡ passed f line seen
+    → fieldBit must line next ≡ lineBit f must line seen
+unfolding lineBit
+passed-on line f must seen next e = ap (λ (s : Step). andThen s (fieldBit must line)) e
+
+pub passed-refused : (line : List ℕ) (f must : ℕ) (seen : Seen) (refusal : Refusal) → Refused refusal ≡ passed f line seen
+    → Refused refusal ≡ lineBit f must line seen
+unfolding lineBit
+passed-refused line f must seen refusal e = ap (λ (s : Step). andThen s (fieldBit must line)) e

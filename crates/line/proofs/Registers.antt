@@ -35,9 +35,9 @@ pub record Fine (header : ℕ) : Type 0 where
 
 -- which field is read, the registers `header`, `field` and `number`, and the frame's bits
 pub data Registers (f header field n : ℕ) (frame : List ℕ) : Type 0 where
-  in-header : f ≤ 5 → frame ≡ bits (length frame) n → n < 2 ^ length frame → Registers f header field n frame
-  in-data : (k : ℕ) → f ≡ 6 → Fine header → frame ≡ bits 19 header ++ bits k n → n < 2 ^ k → Registers f header field n frame
-  behind : (k : ℕ) → 6 < f → Fine header → frame ≡ bits 19 header ++ (bits (8 * (header % 16)) field ++ bits k n) → n < 2 ^ k
+  in-header : f ≤ 3 → frame ≡ bits (length frame) n → n < 2 ^ length frame → Registers f header field n frame
+  in-data : (k : ℕ) → f ≡ 4 → Fine header → frame ≡ bits 19 header ++ bits k n → n < 2 ^ k → Registers f header field n frame
+  behind : (k : ℕ) → 4 < f → Fine header → frame ≡ bits 19 header ++ (bits (8 * (header % 16)) field ++ bits k n) → n < 2 ^ k
       → Registers f header field n frame
 
 -- ---- a bit more
@@ -91,7 +91,7 @@ dlc-in header l =
     ∙ ap (number 0) (take-at (bits 4 header) l 4 (bits-length 4 header))
     ∙ number-low 4 header
 
-pub dlc-known : (f header field n : ℕ) (frame : List ℕ) → Registers f header field n frame → 5 < f → dlcIn frame ≡ header % 16
+pub dlc-known : (f header field n : ℕ) (frame : List ℕ) → Registers f header field n frame → 3 < f → dlcIn frame ≡ header % 16
 dlc-known f header field n frame (in-header g e l) h = absurd (omega arith)
 dlc-known f header field n frame (in-data k g fine e l) h = ap dlcIn e ∙ dlc-in header (bits k n)
 dlc-known f header field n frame (behind k g fine e l) h = ap dlcIn e ∙ dlc-in header _
@@ -101,13 +101,13 @@ dlc-known f header field n frame (behind k g fine e l) h = ap dlcIn e ∙ dlc-in
 pub dlc-read : (n : ℕ) (frame : List ℕ) → length frame ≡ 19 → frame ≡ bits (length frame) n → dlcIn frame ≡ n % 16
 dlc-read n frame h e = ap dlcIn (e ∙ ap (λ (k : ℕ). bits k n) h ∙ sym (append-nil (bits 19 n))) ∙ dlc-in n []
 
-pub header-put : (field n : ℕ) (frame : List ℕ) → length frame ≡ 19 → Fine n → frame ≡ bits (length frame) n → Registers 6 n field 0 frame
+pub header-put : (field n : ℕ) (frame : List ℕ) → length frame ≡ 19 → Fine n → frame ≡ bits (length frame) n → Registers 4 n field 0 frame
 unfolding bits
 header-put field n frame h fine e =
     in-data 0 refl fine (e ∙ ap (λ (k : ℕ). bits k n) h ∙ sym (append-nil (bits 19 n))) (lit< tt)
 
 pub field-put : (header n k : ℕ) (frame : List ℕ) → length frame ≡ 19 + 8 * (header % 16) → Fine header → frame ≡ bits 19 header ++ bits k n
-    → Registers 7 header n 0 frame
+    → Registers 5 header n 0 frame
 unfolding bits
 field-put header n k frame h fine e =
     let count : k ≡ 8 * (header % 16) = omega (arith, h, data-length header n k frame e) in

@@ -1,32 +1,57 @@
--- Reading as the code does it, by registers and field by field; no public contract cites it. Assumes nothing.
-use Prim.Native.Nat.{ℕ, _+_, _-_, _*_, _/_, _%_}
+-- Reading as the code does it, by registers and row by row; no public contract cites it. Assumes nothing.
+use Prim.Native.Nat.{ℕ, _+_, _-_, _*_, _/_, _%_, _^_}
 use mathlib.Core.Path.{_≡_}
 use mathlib.Core.Bool.{Bool, false, cond, _||_}
 use mathlib.Core.List.{List, [], _∷_, _++_}
-use lib.Dec.{eqb, ltb}
-use Rattle.bits.specs.declared.Run.{Run}
+use lib.Dec.{eqb, leb, ltb}
+use lib.ListN.{length, getD}
 use Rattle.bits.specs.Rows.{bits}
 use Rattle.refusals.specs.declared.Refusal.the-variants.{FieldLength, LineByte, StuffBit, LineLength, Crc, FixedBit}
 use Rattle.field.specs.Coded.{fieldFrom}
 use Rattle.frame.specs.Header.{dataBytes}
 use Rattle.frame.specs.Crc.{crc}
-use Rattle.line.specs.Scan.{runWith, Scanned, whole, stopped}
+use Rattle.line.specs.Fields.{fixed, free}
+use Rattle.line.specs.Scan.{Scanned, whole, stopped}
 use Rattle.line.specs.Read.{identifierIn, fieldIn}
+use Rattle.line.specs.declared.fields.Field.{Field}
 use Rattle.line.specs.declared.seen.Seen.{Seen}
 use Rattle.line.specs.declared.seen.Step.{Step}
 use Rattle.line.specs.declared.seen.Step.the-variants.{Next, Refused}
 
--- after five equal bits a stuff bit is due before the next bit of field f, up to the CRC
-unfoldable pub dueIn : ℕ → Run → Bool
-dueIn f run = cond (ltb 7 f) false (eqb (run .count) 5)
+-- the rows that the code reads by: the fields of a frame with n data bytes, neighbours that must be the same bit in one row
+unfoldable pub rowsOf : ℕ → List Field
+rowsOf n =
+    fixed 1 0  -- start of frame
+    ∷ free 11  -- identifier
+    ∷ fixed 3 0  -- RTR, IDE, reserved bit
+    ∷ free 4  -- DLC
+    ∷ free (8 * n)  -- data
+    ∷ free 15  -- CRC
+    ∷ fixed 1 1  -- CRC delimiter
+    ∷ free 1  -- ACK slot
+    ∷ fixed 8 1  -- ACK delimiter, end bits
+    ∷ []
+
+-- the place that comes first
+unfoldable pub least : ℕ → ℕ → ℕ
+least a b = cond (ltb a b) a b
+
+-- the bit at the next place
+abbrev pub bitAt : List ℕ → Seen → ℕ
+bitAt line seen = getD line (seen .place) 0
+
+-- five equal bits end the raw bits, and a stuff bit is due before the next bit of row f: up to the CRC
+unfoldable pub dueIn : ℕ → ℕ → Bool
+dueIn f raw = cond (ltb 5 f) false (ltb ((raw % 32 + 1) % 32) 2)
 
 -- what is seen behind a stuff bit, and behind a bit of the frame
-abbrev pub behindStuffBit : ℕ → Seen → Seen
-behindStuffBit bit seen =
+abbrev pub behindStuffBit : List ℕ → Seen → Seen
+behindStuffBit line seen =
     record {
+      stop = least (seen .end + 1) (length line);
+      end = seen .end + 1;
       place = seen .place + 1;
-      run = runWith (seen .run) bit;
-      left = seen .left;
+      raw = 1 + seen .raw % 2;
       number = seen .number;
       header = seen .header;
       field = seen .field;
@@ -35,42 +60,63 @@ behindStuffBit bit seen =
 abbrev pub behindBit : ℕ → Seen → Seen
 behindBit bit seen =
     record {
+      stop = seen .stop;
+      end = seen .end;
       place = seen .place + 1;
-      run = runWith (seen .run) bit;
-      left = seen .left - 1;
+      raw = seen .raw * 2 % 2 ^ 64 + bit;
       number = seen .number * 2 + bit;
       header = seen .header;
       field = seen .field;
     }
 
 -- a bit where a stuff bit is due
-unfoldable pub stuffBit : ℕ → Seen → Step
-stuffBit bit seen = cond (eqb bit (seen .run .bit)) (Refused (StuffBit (seen .place))) (Next (behindStuffBit bit seen))
+unfoldable pub stuffBit : List ℕ → Seen → Step
+stuffBit line seen =
+    cond (ltb 1 (bitAt line seen)) (Refused (LineByte (seen .place)))
+    (cond (eqb (bitAt line seen) (seen .raw % 2)) (Refused (StuffBit (seen .place)))
+    (cond (leb (length line) (seen .place + 1)) (Refused (LineLength (seen .place + 1)))
+    (Next (behindStuffBit line seen))))
 
--- a bit of a field whose bits must be `must`
-unfoldable pub fieldBit : ℕ → ℕ → Seen → Step
-fieldBit bit must seen = cond (eqb must (1 - bit)) (Refused (FixedBit (seen .place))) (Next (behindBit bit seen))
+-- what is seen before the next bit of row f: behind the stuff bit, where one is due
+unfoldable pub passed : ℕ → List ℕ → Seen → Step
+passed f line seen = cond (dueIn f (seen .raw)) (stuffBit line seen) (Next seen)
 
--- the next bit of the line, in field f
-unfoldable pub lineBit : ℕ → ℕ → Seen → List ℕ → Step
-lineBit f must seen [] = Refused (LineLength (seen .place))
-lineBit f must seen (bit ∷ line) =
-    cond (ltb 1 bit) (Refused (LineByte (seen .place)))
-    (cond (dueIn f (seen .run)) (stuffBit bit seen)
-    (fieldBit bit must seen))
+-- a byte above what a row allows: a 1 where a 0 must stand, or no bit
+unfoldable pub aboveMost : ℕ → ℕ → ℕ → Step
+aboveMost must bit place = cond (eqb (must + bit) 1) (Refused (FixedBit place)) (Refused (LineByte place))
 
--- how many bits field f has, from the table's number of them and the header
+-- a bit behind the CRC: a 0 may not stand where a 1 must
+unfoldable pub endingBit : ℕ → ℕ → Seen → Step
+endingBit must bit seen = cond (ltb bit (must % 2)) (Refused (FixedBit (seen .place))) (Next (behindBit bit seen))
+
+-- a bit of a row whose bits must be `must`
+unfoldable pub fieldBit : ℕ → List ℕ → Seen → Step
+fieldBit must line seen =
+    cond (ltb 1 (bitAt line seen)) (Refused (LineByte (seen .place)))
+    (cond (eqb must (1 - bitAt line seen)) (Refused (FixedBit (seen .place)))
+    (Next (behindBit (bitAt line seen) seen)))
+
+abbrev pub andThen : Step → (Seen → Step) → Step
+andThen (Next seen) next = next seen
+andThen (Refused refusal) next = Refused refusal
+
+-- the next bit of row f, and the stuff bit before it
+unfoldable pub lineBit : ℕ → ℕ → List ℕ → Seen → Step
+lineBit f must line seen = andThen (passed f line seen) (fieldBit must line)
+
+-- how many bits row f has, from the table's number of them and the header
 unfoldable pub width : ℕ → ℕ → ℕ → ℕ
-width f count header = cond (eqb f 6) (8 * (header % 16)) count
+width f count header = cond (eqb f 4) (8 * (header % 16)) count
 
 -- behind the last bit of the DLC: 3, or the header is whole
 unfoldable pub headerRead : Seen → Step
 headerRead seen =
     cond (eqb (seen .number % 16) 1 || ltb 8 (seen .number % 16)) (Refused (FieldLength (seen .place - 1)))
     (Next (record {
+      stop = seen .stop;
+      end = seen .end;
       place = seen .place;
-      run = seen .run;
-      left = seen .left;
+      raw = seen .raw;
       number = 0;
       header = seen .number;
       field = seen .field;
@@ -80,9 +126,10 @@ headerRead seen =
 unfoldable pub fieldRead : Seen → Step
 fieldRead seen =
     Next (record {
+      stop = seen .stop;
+      end = seen .end;
       place = seen .place;
-      run = seen .run;
-      left = seen .left;
+      raw = seen .raw;
       number = 0;
       header = seen .header;
       field = seen .number;
@@ -94,10 +141,14 @@ crcRead seen =
     cond (eqb (seen .number) (crc (bits 19 (seen .header) ++ bits (8 * dataBytes (seen .header % 16)) (seen .field)))) (Next seen)
     (Refused (Crc (seen .place - 1)))
 
--- behind the last bit of field f
+-- behind the last bit of row f
+unfoldable pub partEnd : ℕ → Seen → Step
+partEnd f seen =
+    cond (eqb f 3) (headerRead seen) (cond (eqb f 4) (fieldRead seen) (cond (eqb f 5) (crcRead seen) (Next seen)))
+
+-- where reading stops in row f: 11 where the line ends before the row
 unfoldable pub fieldEnd : ℕ → Seen → Step
-fieldEnd f seen =
-    cond (eqb f 5) (headerRead seen) (cond (eqb f 6) (fieldRead seen) (cond (eqb f 7) (crcRead seen) (Next seen)))
+fieldEnd f seen = cond (ltb (seen .place) (seen .end)) (Refused (LineLength (seen .place))) (partEnd f seen)
 
 -- the identifier and the data field that the registers hold
 abbrev pub identifierHeld : Seen → ℕ

@@ -1,45 +1,73 @@
-// One bit of a line.
+// One bit of a field.
 ghost use mathlib.Core.Path.{_≡_};
-ghost use Prim.Native.Nat.{_≤_, _<_, _^_};
-ghost use lib.ListN.{drop};
-ghost use Rattle.line.specs.Steps.{fieldBit, lineBit};
+ghost use Prim.Native.Nat.{_+_, _*_, _%_, _≤_, _<_, _^_};
+ghost use lib.ListN.{length};
+ghost use Rattle.line.specs.Steps.{aboveMost, behindBit, endingBit, fieldBit, lineBit};
+use crate::fields;
 use crate::seen::Seen;
 use crate::seen::Step;
 use crate::stuffing;
 use refusals::Refusal;
 
-// Reads the next bit, of the field numbered `field`, or the stuff bit before it.
+// Reads the next bit of the field numbered `field`, and the stuff bit before it where one is due.
 pub(crate) fn next(line: &[u8], field: usize, must: u8, seen: Seen) -> Step
-    requires { ⌜ (seen .run .count < 255) × (0 < seen .left) × (seen .number < 2 ^ 63) ⌝ }
-    ensures { λ r. ⌜ r ≡ lineBit field must seen (drop (seen .place) (now (line .entry))) ⌝ }
+    requires { ⌜ (seen .place < length (now line)) × (seen .end < 2 ^ 63 + 256) × (seen .number < 2 ^ 63) × (must ≤ 2) × (6 * (must % 2) ≤ field) ⌝ }
+    ensures { λ r. ⌜ r ≡ lineBit field must (now (line .entry)) seen ⌝ }
 {
-    let place = seen.place;
-    if line.len() <= place {
-        return Step::Refused(Refusal::LineLength(place));
+    match stuffing::pass(line, field, seen) {
+        Step::Next(next) => field_bit(line, field, must, next),
+        Step::Refused(refusal) => Step::Refused(refusal),
     }
-    let bit = line[place];
-    if 1 < bit {
-        return Step::Refused(Refusal::LineByte(place));
-    }
-    if stuffing::is_due(field, seen.run) {
-        return stuffing::stuff_bit(bit, seen);
-    }
-    field_bit(bit, must, seen)
 }
 
 // A bit of a field; the bits of the field must be `must`, where that is 0 or 1.
-fn field_bit(bit: u8, must: u8, seen: Seen) -> Step
-    requires { ⌜ (bit ≤ 1) × (seen .run .count < 255) × (seen .place < 2 ^ 63) × (0 < seen .left) × (seen .number < 2 ^ 63) ⌝ }
-    ensures { λ r. ⌜ r ≡ fieldBit bit must seen ⌝ }
+fn field_bit(line: &[u8], field: usize, must: u8, seen: Seen) -> Step
+    requires { ⌜ (seen .place < length (now line)) × (seen .number < 2 ^ 63) × (must ≤ 2) × (6 * (must % 2) ≤ field) ⌝ }
+    ensures { λ r. ⌜ r ≡ fieldBit must (now (line .entry)) seen ⌝ }
 {
-    if must == 1 - bit {
+    let place = seen.place;
+    let must = must as u64;
+    let bit = line[place] as u64;
+    let most = (must + 1) / 2;
+    if most < bit {
+        return wrong(must, bit, place);
+    }
+    if fields::CRC < field {
+        return ending_bit(must, bit, seen);
+    }
+    Step::Next(behind(bit, seen))
+}
+
+// A byte that is no bit, or a 1 where a 0 must stand.
+fn wrong(must: u64, bit: u64, place: usize) -> Step
+    requires { ⌜ (must ≤ 2) × (bit < 256) ⌝ }
+    ensures { λ r. ⌜ r ≡ aboveMost must bit place ⌝ }
+{
+    if must + bit == 1 {
+        return Step::Refused(Refusal::FixedBit(place));
+    }
+    Step::Refused(Refusal::LineByte(place))
+}
+
+// Only behind the CRC must a bit be 1.
+fn ending_bit(must: u64, bit: u64, seen: Seen) -> Step
+    requires { ⌜ (bit ≤ 1) × (seen .place < 2 ^ 63) × (seen .number < 2 ^ 63) ⌝ }
+    ensures { λ r. ⌜ r ≡ endingBit must bit seen ⌝ }
+{
+    if bit < must % 2 {
         return Step::Refused(Refusal::FixedBit(seen.place));
     }
-    let run = stuffing::run_with(seen.run, bit);
+    Step::Next(behind(bit, seen))
+}
+
+// What is seen behind a bit that is right.
+fn behind(bit: u64, seen: Seen) -> Seen
+    requires { ⌜ (bit ≤ 1) × (seen .place < 2 ^ 63) × (seen .number < 2 ^ 63) ⌝ }
+    ensures { λ r. ⌜ r ≡ behindBit bit seen ⌝ }
+{
     let mut next = seen;
-    next.place += 1;
-    next.run = run;
-    next.left -= 1;
-    next.number = next.number * 2 + bit as u64;
-    Step::Next(next)
+    next.place = seen.place + 1;
+    next.raw = (seen.raw << 1) + bit;
+    next.number = seen.number * 2 + bit;
+    next
 }

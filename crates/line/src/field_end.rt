@@ -1,31 +1,44 @@
 // What a field shows once its last bit is read.
 ghost use mathlib.Core.Path.{_≡_};
 ghost use Prim.Native.Nat.{_<_};
-ghost use Rattle.line.specs.Steps.{headerRead, fieldRead, crcRead, fieldEnd};
+ghost use Rattle.line.specs.Steps.{headerRead, fieldRead, crcRead, partEnd, fieldEnd};
 use crate::fields;
 use crate::seen::Seen;
 use crate::seen::Step;
 use frame::crc;
 use refusals::Refusal;
 
-// Refused with 3 behind the DLC and with 12 behind the CRC, at the bit before.
+// Refused with 11 where the line ends before the field; with 3 behind the DLC and with 12 behind the CRC, at the bit before.
 pub(crate) fn judge(field: usize, seen: Seen) -> Step
-    requires { ⌜ 0 < seen .place ⌝ }
+    requires { ⌜ 0 < seen .end ⌝ }
     ensures { λ r. ⌜ r ≡ fieldEnd field seen ⌝ }
 {
+    if seen.place < seen.end {
+        return Step::Refused(Refusal::LineLength(seen.place));
+    }
+    part(field, seen)
+}
+
+// DLC, data and CRC are each the last of a part.
+fn part(field: usize, seen: Seen) -> Step
+    requires { ⌜ 0 < seen .place ⌝ }
+    ensures { λ r. ⌜ r ≡ partEnd field seen ⌝ }
+{
+    if field < fields::DLC {
+        return Step::Next(seen);
+    }
+    if fields::CRC < field {
+        return Step::Next(seen);
+    }
     if field == fields::DLC {
         return header(seen);
     }
     if field == fields::DATA {
         return data(seen);
     }
-    if field == fields::CRC {
-        return check(seen);
-    }
-    Step::Next(seen)
+    check(seen)
 }
 
-// The DLC is the last of the header.
 fn header(seen: Seen) -> Step
     requires { ⌜ 0 < seen .place ⌝ }
     ensures { λ r. ⌜ r ≡ headerRead seen ⌝ }

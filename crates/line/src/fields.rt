@@ -1,55 +1,51 @@
 // The fields of a frame, as rows of data.
 ghost use mathlib.Core.Path.{_≡_};
-ghost use Rattle.line.specs.Fields.{fieldsOf};
-ghost use Rattle.line.specs.Steps.{width};
+ghost use Rattle.line.specs.Steps.{rowsOf, width};
 
-// A field of a frame.
+// A field of a frame; or neighbours that must be the same bit.
 pub(crate) struct Field {
     // How many bits it has; 0 for the data, whose bytes the DLC counts.
-    pub bits: usize,
+    pub bits: u8,
     // The bit that each of them must be; 2 where either may stand.
     pub bit: u8,
 }
 
-// How many fields there are, and those that the code must tell from the others.
-pub(crate) const COUNT: usize = 12;
+// How many rows there are, and those that the code must tell from the others.
+pub(crate) const COUNT: usize = 9;
 
-pub(crate) const DLC: usize = 5;
+pub(crate) const DLC: usize = 3;
 
-pub(crate) const DATA: usize = 6;
+pub(crate) const DATA: usize = 4;
 
-pub(crate) const CRC: usize = 7;
+pub(crate) const CRC: usize = 5;
 
-const FIELDS: [Field; 12] = [
+const FIELDS: [Field; 9] = [
     Field { bits: 1, bit: 0 }, // start of frame
     Field { bits: 11, bit: 2 }, // identifier
-    Field { bits: 1, bit: 0 }, // RTR
-    Field { bits: 1, bit: 0 }, // IDE
-    Field { bits: 1, bit: 0 }, // reserved bit
+    Field { bits: 3, bit: 0 }, // RTR, IDE, reserved bit
     Field { bits: 4, bit: 2 }, // DLC
     Field { bits: 0, bit: 2 }, // data
     Field { bits: 15, bit: 2 }, // CRC
     Field { bits: 1, bit: 1 }, // CRC delimiter
     Field { bits: 1, bit: 2 }, // ACK slot
-    Field { bits: 1, bit: 1 }, // ACK delimiter
-    Field { bits: 7, bit: 1 }, // end bits
+    Field { bits: 8, bit: 1 }, // ACK delimiter, end bits
 ];
 
 // The fields in the order they are sent.
-pub(crate) fn all() -> [Field; 12]
-    ensures { λ r. ⌜ r ≡ fieldsOf 0 ⌝ }
+pub(crate) fn all() -> [Field; 9]
+    ensures { λ r. ⌜ r ≡ rowsOf 0 ⌝ }
 {
     FIELDS
 }
 
 // How many bits a field has: the data eight for each byte that the DLC says, the header's lowest four bits; any other what the
 // table says.
-pub(crate) fn width(field: usize, bits: usize, header: u64) -> usize
+pub(crate) fn width(field: usize, bits: u8, header: u64) -> usize
     ensures { λ r. ⌜ r ≡ width field bits header ⌝ }
 {
     if field == DATA {
         8 * ((header % 16) as usize)
     } else {
-        bits
+        bits as usize
     }
 }

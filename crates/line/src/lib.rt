@@ -10,6 +10,7 @@ mod bit;
 mod data_field;
 mod field_end;
 mod fields;
+mod places;
 mod scanning;
 mod seen;
 mod stuffing;

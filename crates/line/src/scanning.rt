@@ -5,6 +5,7 @@ ghost use Rattle.line.specs.Steps.{Reads};
 use crate::bit;
 use crate::field_end;
 use crate::fields;
+use crate::places;
 use crate::seen;
 use crate::seen::Step;
 use refusals::Refusal;
@@ -24,8 +25,9 @@ pub(crate) fn scan(line: &[u8]) -> Step
             break 'line Step::Next(seen);
         }
         let field = fields[i];
-        seen.left = fields::width(i, field.bits, seen.header);
-        while 0 < seen.left {
+        seen.end = seen.place + fields::width(i, field.bits, seen.header);
+        seen.stop = places::least(seen.end, line.len());
+        while seen.place < seen.stop {
             match bit::next(line, i, field.bit, seen) {
                 Step::Next(next) => {
                     seen = next;

@@ -1,14 +1,15 @@
 // What is kept of a line while it is read.
-use bits::Run;
 use refusals::Refusal;
 
 pub(crate) struct Seen {
+    // Where reading stops in the present field: at its end, or at the line's where that comes first.
+    pub stop: usize,
+    // The place behind the last bit of the present field, if no more stuff bits come.
+    pub end: usize,
     // The place of the next bit.
     pub place: usize,
-    // The equal bits that end before it, stuff bits counted.
-    pub run: Run,
-    // How many bits of the present field are still to come.
-    pub left: usize,
+    // The bits up to it, stuff bits too, as far as a run of five can tell: those since the last stuff bit.
+    pub raw: u64,
     // The bits of the present part, without stuff bits: of the header, of the data field, or of CRC and ending.
     pub number: u64,
     // The header and the data field, once they are read.
@@ -22,10 +23,12 @@ pub(crate) enum Step {
     Refused(Refusal),
 }
 
+// No run reaches in from before the start of frame, which must be 0: before it stands a 1.
 pub(crate) const NOTHING: Seen = Seen {
+    stop: 0,
+    end: 0,
     place: 0,
-    run: Run { bit: 0, count: 0 },
-    left: 0,
+    raw: 1,
     number: 0,
     header: 0,
     field: 0,

@@ -1,46 +1,56 @@
 // Stuff bits in a line: where one is due, and which bit it must be.
 ghost use mathlib.Core.Path.{_≡_};
-ghost use Prim.Native.Nat.{_<_, _^_};
-ghost use Rattle.line.specs.Scan.{runWith};
-ghost use Rattle.line.specs.Steps.{dueIn, stuffBit};
+ghost use Prim.Native.Nat.{_+_, _<_, _^_};
+ghost use lib.ListN.{length};
+ghost use Rattle.line.specs.Steps.{dueIn, stuffBit, passed};
 use crate::fields;
+use crate::places;
 use crate::seen::Seen;
 use crate::seen::Step;
-use bits::Run;
 use refusals::Refusal;
 
-// Whether a stuff bit is due before the next bit of a field: none is behind the last CRC bit.
-pub(crate) fn is_due(field: usize, run: Run) -> bool
-    ensures { λ r. ⌜ r ≡ dueIn field run ⌝ }
+// What is seen behind the stuff bit that is due before the next bit of a field; where none is due, what was seen.
+pub(crate) fn pass(line: &[u8], field: usize, seen: Seen) -> Step
+    requires { ⌜ (seen .place < length (now line)) × (seen .end < 2 ^ 63 + 256) ⌝ }
+    ensures { λ r. ⌜ r ≡ passed field (now (line .entry)) seen ⌝ }
+{
+    if is_due(field, seen.raw) {
+        return stuff_bit(line, seen);
+    }
+    Step::Next(seen)
+}
+
+// Whether the last five bits are equal; behind the last CRC bit no stuff bit is due.
+fn is_due(field: usize, raw: u64) -> bool
+    ensures { λ r. ⌜ r ≡ dueIn field raw ⌝ }
 {
     if fields::CRC < field {
         return false;
     }
-    run.count == 5
+    (raw % 32 + 1) % 32 < 2
 }
 
-// The run once a bit is read.
-pub(crate) fn run_with(run: Run, bit: u8) -> Run
-    requires { ⌜ run .count < 255 ⌝ }
-    ensures { λ r. ⌜ r ≡ runWith run bit ⌝ }
+// A bit where a stuff bit is due: it must not be the sixth of six equal bits, and a bit of the field must follow.
+fn stuff_bit(line: &[u8], seen: Seen) -> Step
+    requires { ⌜ (seen .place < length (now line)) × (seen .end < 2 ^ 63 + 256) ⌝ }
+    ensures { λ r. ⌜ r ≡ stuffBit (now (line .entry)) seen ⌝ }
 {
-    Run {
-        bit,
-        count: if bit == run.bit { run.count + 1 } else { 1 },
+    let place = seen.place;
+    let bit = line[place] as u64;
+    if 1 < bit {
+        return Step::Refused(Refusal::LineByte(place));
     }
-}
-
-// A bit where a stuff bit is due: it must not be the sixth of six equal bits.
-pub(crate) fn stuff_bit(bit: u8, seen: Seen) -> Step
-    requires { ⌜ (seen .run .count < 255) × (seen .place < 2 ^ 63) ⌝ }
-    ensures { λ r. ⌜ r ≡ stuffBit bit seen ⌝ }
-{
-    if bit == seen.run.bit {
-        return Step::Refused(Refusal::StuffBit(seen.place));
+    if bit == seen.raw % 2 {
+        return Step::Refused(Refusal::StuffBit(place));
     }
-    let run = run_with(seen.run, bit);
+    if line.len() <= place + 1 {
+        return Step::Refused(Refusal::LineLength(place + 1));
+    }
+    let end = seen.end + 1;
     let mut next = seen;
-    next.place += 1;
-    next.run = run;
+    next.stop = places::least(end, line.len());
+    next.end = end;
+    next.place = place + 1;
+    next.raw = 1 + seen.raw % 2;
     Step::Next(next)
 }

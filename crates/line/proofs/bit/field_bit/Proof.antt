@@ -1,37 +1,57 @@
--- `line::bit::field_bit` meets its contract. Assumes nothing.
+-- `line::bit::field_bit` meets its contract: one law for each way. Assumes nothing.
+use mathlib.Core.Path.{_∙_, ap}
+use native.Mathlib.Omega.{arith}
 use borrow.Author.Needs.{needs}
-use borrow.Author.Tests.{eq-eqb, ne-eqb}
-use Rattle.line.specs.Steps.{fieldBit}
+use Rattle.line.specs.declared.seen.Step.the-variants.{Next}
+use Rattle.line.proofs.LineBit.{above-most, ending-is, plain-is}
 use Rattle.line.proofs.bit.field_bit.Statement.{statement}
 use Rattle.line.proofs.bit.field_bit.Tie as tie
 
-sub-if1 : tie.Need-sub-if1
-sub-if1 c = search needs
+shared-slice-read-bit : tie.Need-shared-slice-read-bit
+shared-slice-read-bit c = search needs
+
+cast-bit : tie.Need-cast-bit
+cast-bit c = omega (arith, c .shared-slice-known2 .given (c .before .before .args .seen .place))
+
+add-most : tie.Need-add-most
+add-most c = search needs
+
+wrong-requires : tie.Need-wrong-requires
+wrong-requires c κs =
+    let start = c .before .before .before in
+    (start .pre .2, omega (arith, c .before .shared-slice-known2 .given (start .args .seen .place)))
 
 returns : tie.Need-returns
-unfolding fieldBit
-returns c = simp (eq-eqb _ _ (c .if1 .taken))
+returns c =
+    let start = c .before .before .before .before in
+    c .wrong .ensures ∙ above-most _ _ _ (start .pre .2) (c .before .if1 .taken)
 
-run-with-requires : tie.Need-run-with-requires
-run-with-requires c κs = search needs
-
-add-next : tie.Need-add-next
-add-next c = search needs
-
-sub-next : tie.Need-sub-next
-sub-next c = search needs
-
-mul-next : tie.Need-mul-next
-mul-next c = search needs
-
-add-next-2 : tie.Need-add-next-2
-add-next-2 c = search needs
+ending-bit-requires : tie.Need-ending-bit-requires
+ending-bit-requires c κs = search needs
 
 returns-2 : tie.Need-returns-2
-unfolding fieldBit
-returns-2 c = simp (ne-eqb _ _ (c .before .before .before .before .if1 .left), c .before .before .before .run-with .ensures)
+returns-2 c =
+    let start = c .before .before .before .before .before in
+    c .ending-bit .ensures ∙ ending-is _ _ _ (start .pre .2) (c .before .before .if1 .left)
+
+behind-requires : tie.Need-behind-requires
+behind-requires c κs = search needs
+
+returns-3 : tie.Need-returns-3
+returns-3 c =
+    let start = c .before .before .before .before .before in
+    ap Next (c .behind .ensures) ∙ plain-is _ _ _ (start .pre .2) (c .before .before .if1 .left) _ (start .pre .3) (c .before .if2 .left)
 
 pub field-bit-spec : {M : Type 1} → statement M
 field-bit-spec =
     tie.close
-    (tie.spec sub-if1 returns run-with-requires add-next sub-next mul-next add-next-2 returns-2)
+    (tie.spec
+    shared-slice-read-bit
+    cast-bit
+    add-most
+    wrong-requires
+    returns
+    ending-bit-requires
+    returns-2
+    behind-requires
+    returns-3)

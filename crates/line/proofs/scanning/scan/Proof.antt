@@ -5,32 +5,34 @@ use Prim.Native.Nat.{ℕ, _-_, _≤_, _<_}
 use native.Mathlib.Omega.{arith}
 use lib.ListN.{length}
 use borrow.Author.Needs.{needs}
-use Rattle.line.specs.Steps.{width}
+use Rattle.bits.specs.declared.Run.{Run}
+use Rattle.bits.specs.Stuffing.{nothingSent}
+use Rattle.line.specs.Steps.{rowsOf, width}
 use Rattle.line.specs.declared.fields.Field.{Field}
-use Rattle.line.proofs.Positions.{rowAt, end-some}
-use Rattle.line.proofs.Keeping.{bytes, Between, Within, Goes, must-stand, number-small, few-enough, bit-goes}
-use Rattle.line.proofs.FieldEnds.{Ends, width-is, bit-is, line-begins, field-begins, field-ends, line-longer, line-read}
+use Rattle.line.proofs.Positions.{rowAt, end-is, end-some, end-within}
+use Rattle.line.proofs.Keeping.{bytes, Between, Within, least-both, Goes, must-stand, number-small, end-small, bit-goes}
+use Rattle.line.proofs.FieldEnds.{Ends, width-is, bit-is, row-bits, line-begins, field-begins, field-ends, line-longer, line-read}
 use Rattle.line.proofs.scanning.scan.Statement.{statement}
 use Rattle.line.proofs.scanning.scan.Tie as tie
 
 abbrev Inv-loop : tie.InvT-loop
 Inv-loop line fields seen₀ i field seen =
-    (i < 12) × ((frame : List ℕ) × Within line i seen frame)
+    (i < 9) × ((frame : List ℕ) × (run : Run) × (left : ℕ) × Within line i seen run left frame)
 
 abbrev μ-loop : tie.MeasureT-loop
 μ-loop line fields seen₀ i field seen = length line - seen .place
 
 abbrev Inv-line : tie.InvT-line
-Inv-line line fields seen₀ i₀ seen i = (i ≤ 12) × ((frame : List ℕ) × Between line i seen frame)
+Inv-line line fields seen₀ i₀ seen i = (i ≤ 9) × ((frame : List ℕ) × (run : Run) × Between line i seen run frame)
 
 abbrev μ-line : tie.MeasureT-line
-μ-line line fields seen₀ i₀ seen i = 12 - i
+μ-line line fields seen₀ i₀ seen i = 9 - i
 
 all-requires : tie.Need-all-requires Inv-loop μ-loop Inv-line μ-line
 all-requires c κs = search needs
 
 line-holds : tie.Need-line-holds Inv-loop μ-loop Inv-line μ-line
-line-holds c = (omega arith, ([], line-begins _))
+line-holds c = (omega arith, ([], nothingSent, line-begins _))
 
 mul-field : tie.Need-mul-field Inv-loop μ-loop Inv-line μ-line
 mul-field c = search needs
@@ -41,42 +43,75 @@ array-copy-out-field c = search needs
 width-requires : tie.Need-width-requires Inv-loop μ-loop Inv-line μ-line
 width-requires c κs = search needs
 
+-- how many bits the row has
+count : (c : tie.After-width Inv-loop μ-loop Inv-line μ-line) →
+    let l = c .before .before .before .line in
+    c .width .result ≡ rowAt (l .i) (rowsOf (bytes (l .seen))) .bits
+count c =
+    let l = c .before .before .before .line in
+    let table = c .before .before .before .before .all .ensures in
+    c .width .ensures ∙ ap (λ (rows : List Field). width (l .i) (rowAt (l .i) rows .bits) (l .seen .header)) table
+    ∙ width-is (l .i) (l .seen .header)
+
+add-seen : tie.Need-add-seen Inv-loop μ-loop Inv-line μ-line
+add-seen c =
+    let l = c .before .before .before .before .line in
+    let i = l .i in
+    let n = bytes (l .seen) in
+    let start = c .before .before .before .before .before .before .before in
+    let h : i < 9 = omega (arith, l .inv .0, c .before .before .before .if1 .left) in
+    omega (arith, count (c .before), end-is i n, end-within i n h, l .inv .1 .2 .reached, start .good)
+
+least-requires : tie.Need-least-requires Inv-loop μ-loop Inv-line μ-line
+least-requires c κs = tt
+
 loop-holds : tie.Need-loop-holds Inv-loop μ-loop Inv-line μ-line
 loop-holds c =
-    let l = c .before .before .before .line in
+    let l = c .before .before .before .before .before .line in
     let i = l .i in
-    let h : i < 12 = omega (arith, l .inv .0) in
-    let table = c .before .before .before .before .all .ensures in
-    let count =
-    c .width .ensures ∙ ap (λ (rows : List Field). width i (rowAt i rows .bits) (l .seen .header)) table ∙ width-is i (l .seen .header) in
-    (h, (l .inv .1 .0, field-begins _ i (l .seen) (l .inv .1 .0) _ h count (l .inv .1 .1)))
+    let h : i < 9 = omega (arith, l .inv .0, c .before .before .before .before .if1 .left) in
+    let within = field-begins _ i (l .seen) (l .inv .1 .1) (l .inv .1 .0) _ h (count (c .before .before)) (l .inv .1 .2) in
+    (h, (l .inv .1 .0, l .inv .1 .1, c .before .before .width .result, rw (c .least .ensures) within))
 
+-- in the inner loop: the bit that must stand, and room for one more
 next-requires : tie.Need-next-requires Inv-loop μ-loop Inv-line μ-line
 next-requires c κs =
     let l = c .before .before .loop in
-    let some = c .if3 .taken in
-    let i = c .before .before .before .before .before .before .line .i in (
-      few-enough _ i (l .seen) (l .inv .1 .0) (l .inv .0) (l .inv .1 .1) some,
-      some,
-      number-small _ i (l .seen) (l .inv .1 .0) (l .inv .0) (l .inv .1 .1) some,
+    let start = c .before .before .before .before .before .before .before .before in
+    let i = start .line .i in
+    let w = l .inv .1 .3 in
+    let both = least-both _ _ _ (rw (w .stop-is) at (c .if3 .taken)) in
+    let some : 0 < l .inv .1 .2 = omega (arith, w .end-is, both .0) in
+    let small = end-small _ i (l .seen) (l .inv .1 .1) (l .inv .1 .2) (l .inv .1 .0) (l .inv .0) w some in
+    let row = row-bits i (l .inv .0) in
+    let table = ap (λ (rows : List Field). rowAt i rows .bit) (start .before .all .ensures) in (
+      both .1,
+      omega (arith, small, start .before .before .before .good),
+      number-small _ i (l .seen) (l .inv .1 .1) (l .inv .1 .2) (l .inv .1 .0) (l .inv .0) w some,
+      rw table (row .0),
+      rw table (row .1),
     )
 
 -- what the bit leads to
 goes : (c : tie.After-next Inv-loop μ-loop Inv-line μ-line) →
     let at = c .before .before .before in
-    let start = at .before .before .before .before in
+    let start = at .before .before .before .before .before .before in
     Goes (start .before .before .before .args .line .now) (start .line .i) (at .loop .seen) (c .next .result)
 goes c =
     let at = c .before .before .before in
     let l = at .loop in
-    let i = at .before .before .before .before .line .i in
-    let line = at .before .before .before .before .before .before .before .args .line .now in
-    let some = c .before .if3 .taken in
+    let start = at .before .before .before .before .before .before in
+    let i = start .line .i in
+    let line = start .before .before .before .args .line .now in
+    let w = l .inv .1 .3 in
+    let before = c .before .if3 .taken in
+    let both = least-both _ _ _ (rw (w .stop-is) at before) in
+    let some : 0 < l .inv .1 .2 = omega (arith, w .end-is, both .0) in
     let must =
-    must-stand line i (l .seen) (l .inv .1 .0) (l .inv .0) (l .inv .1 .1) some
-    ∙ sym (ap (λ (rows : List Field). rowAt i rows .bit) (at .before .before .before .before .before .all .ensures) ∙ bit-is i (bytes (l .seen))) in
+    must-stand line i (l .seen) (l .inv .1 .1) (l .inv .1 .2) (l .inv .1 .0) (l .inv .0) w some
+    ∙ sym (ap (λ (rows : List Field). rowAt i rows .bit) (start .before .all .ensures) ∙ bit-is i (bytes (l .seen))) in
     subst (Goes line i (l .seen)) (sym (c .next .ensures))
-    (bit-goes line i (l .seen) (l .inv .1 .0) (l .inv .0) (l .inv .1 .1) some _ must)
+    (bit-goes line i (l .seen) (l .inv .1 .1) (l .inv .1 .2) (l .inv .1 .0) (l .inv .0) w before _ must)
 
 enum-known-next : tie.Need-enum-known-next Inv-loop μ-loop Inv-line μ-line
 enum-known-next c = search needs
@@ -84,13 +119,13 @@ enum-known-next c = search needs
 loop-less : tie.Need-loop-less Inv-loop μ-loop Inv-line μ-line
 loop-less c =
     let next = subst (Goes _ _ _) (c .before .next2 .given .1) (goes (c .before .before .before)) in
-    omega (arith, next .2, next .3)
+    omega (arith, next .4, next .5)
 
 loop-again : tie.Need-loop-again Inv-loop μ-loop Inv-line μ-line
 loop-again c =
     let at = c .before .before .before in
     let next = subst (Goes _ _ _) (c .before .next2 .given .1) (goes at) in
-    (at .before .before .before .loop .inv .0, (next .0, next .1))
+    (at .before .before .before .loop .inv .0, (next .2, next .0, next .1, next .3))
 
 enum-known-refusal : tie.Need-enum-known-refusal Inv-loop μ-loop Inv-line μ-line
 enum-known-refusal c = search needs
@@ -98,20 +133,22 @@ enum-known-refusal c = search needs
 judge-requires : tie.Need-judge-requires Inv-loop μ-loop Inv-line μ-line
 judge-requires c κs =
     let l = c .before .before .loop in
-    let w = l .inv .1 .1 in
-    omega (arith, w .behind, w .at-is, end-some (c .before .before .before .before .before .before .line .i) (bytes (l .seen)))
+    let i = c .before .before .before .before .before .before .before .before .line .i in
+    let w = l .inv .1 .3 in
+    omega (arith, w .behind, w .at-is, w .end-is, end-some i (bytes (l .seen)))
 
--- what the end of the field leads to
+-- what the end of the row leads to
 ends : (c : tie.After-judge Inv-loop μ-loop Inv-line μ-line) →
     let at = c .before .before .before in
-    let start = at .before .before .before .before in
-    Ends (start .before .before .before .args .line .now) (start .line .i) (at .loop .inv .1 .0) (c .judge .result)
+    let start = at .before .before .before .before .before .before in
+    let inv = at .loop .inv .1 in
+    Ends (start .before .before .before .args .line .now) (start .line .i) (inv .1) (inv .0) (c .judge .result)
 ends c =
     let at = c .before .before .before in
     let l = at .loop in
-    let none : l .seen .left ≡ 0 = omega (arith, c .before .if3 .left) in
-    subst (Ends _ _ _) (sym (c .judge .ensures))
-    (field-ends _ (at .before .before .before .before .line .i) (l .seen) (l .inv .1 .0) (l .inv .0) (l .inv .1 .1) none)
+    let i = at .before .before .before .before .before .before .line .i in
+    subst (Ends _ _ _ _) (sym (c .judge .ensures))
+    (field-ends _ i (l .seen) (l .inv .1 .1) (l .inv .1 .2) (l .inv .1 .0) (l .inv .0) (l .inv .1 .3) (c .before .if3 .left))
 
 enum-known-next-2 : tie.Need-enum-known-next-2 Inv-loop μ-loop Inv-line μ-line
 enum-known-next-2 c = search needs
@@ -129,23 +166,23 @@ line-again : tie.Need-line-again Inv-loop μ-loop Inv-line μ-line
 line-again c =
     let at = c .before .before .before in
     let i = at .before .before .before .loop .inv in
-    (omega (arith, i .0), (i .1 .0, subst (Ends _ _ _) (c .before .next3 .given .1) (ends at)))
+    (omega (arith, i .0), (i .1 .0, i .1 .1, subst (Ends _ _ _ _) (c .before .next3 .given .1) (ends at)))
 
 returns : tie.Need-returns Inv-loop μ-loop Inv-line μ-line
 returns c =
     let l = c .before .before .before .line in
-    line-longer _ (l .seen) (l .inv .1 .0) (rw (c .before .before .if1 .taken) at (l .inv .1 .1)) (c .if2 .taken)
+    line-longer _ (l .seen) (l .inv .1 .1) (l .inv .1 .0) (rw (c .before .before .if1 .taken) at (l .inv .1 .2)) (c .if2 .taken)
 
 returns-2 : tie.Need-returns-2 Inv-loop μ-loop Inv-line μ-line
 returns-2 c =
     let l = c .before .before .before .line in
-    line-read _ (l .seen) (l .inv .1 .0) (rw (c .before .before .if1 .taken) at (l .inv .1 .1)) (c .if2 .left)
+    line-read _ (l .seen) (l .inv .1 .1) (l .inv .1 .0) (rw (c .before .before .if1 .taken) at (l .inv .1 .2)) (c .if2 .left)
 
 returns-3 : tie.Need-returns-3 Inv-loop μ-loop Inv-line μ-line
 returns-3 c = subst (Goes _ _ _) (c .before .refusal .given .1) (goes (c .before .before .before))
 
 returns-4 : tie.Need-returns-4 Inv-loop μ-loop Inv-line μ-line
-returns-4 c = subst (Ends _ _ _) (c .before .refusal2 .given .1) (ends (c .before .before .before))
+returns-4 c = subst (Ends _ _ _ _) (c .before .refusal2 .given .1) (ends (c .before .before .before))
 
 pub scan-spec : {M : Type 1} → statement M
 scan-spec =
@@ -160,6 +197,8 @@ scan-spec =
     mul-field
     array-copy-out-field
     width-requires
+    add-seen
+    least-requires
     loop-holds
     next-requires
     enum-known-next

@@ -1,0 +1,20 @@
+-- `line::bit::ending_bit` meets its contract. Assumes nothing.
+use borrow.Author.Needs.{needs}
+use borrow.Author.Tests.{lt-ltb, le-ltb}
+use Rattle.line.specs.Steps.{endingBit}
+use Rattle.line.proofs.bit.ending_bit.Statement.{statement}
+use Rattle.line.proofs.bit.ending_bit.Tie as tie
+
+returns : tie.Need-returns
+unfolding endingBit
+returns c = simp (lt-ltb _ _ (c .if1 .taken))
+
+behind-requires : tie.Need-behind-requires
+behind-requires c κs = search needs
+
+returns-2 : tie.Need-returns-2
+unfolding endingBit
+returns-2 c = simp (le-ltb _ _ (c .before .if1 .left), c .behind .ensures)
+
+pub ending-bit-spec : {M : Type 1} → statement M
+ending-bit-spec = tie.close (tie.spec returns behind-requires returns-2)
