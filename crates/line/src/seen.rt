@@ -1,6 +1,7 @@
 // What is kept of a line while it is read.
 use refusals::Refusal;
 
+// A refusal takes the room of `stop` and `end` in a Step: they stand first because nothing behind a field asks for them.
 pub(crate) struct Seen {
     // Where reading stops in the present field: at its end, or at the line's where that comes first.
     pub stop: usize,
@@ -8,7 +9,7 @@ pub(crate) struct Seen {
     pub end: usize,
     // The place of the next bit.
     pub place: usize,
-    // The bits up to it, stuff bits too, as far as a run of five can tell: those since the last stuff bit.
+    // The bits read last, stuff bits too: the five lowest show whether a stuff bit is due.
     pub raw: u64,
     // The bits of the present part, without stuff bits: of the header, of the data field, or of CRC and ending.
     pub number: u64,

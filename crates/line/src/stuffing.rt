@@ -51,6 +51,7 @@ fn stuff_bit(line: &[u8], seen: Seen) -> Step
     next.stop = places::least(end, line.len());
     next.end = end;
     next.place = place + 1;
+    // The stuff bit and, before it, a bit of the other value.
     next.raw = 1 + seen.raw % 2;
     Step::Next(next)
 }
