@@ -38,12 +38,28 @@ pub fn decode_number(n: usize, number: u64, payload: &mut [u8]) -> Answer
     if n == 0 {
         return Answer::Length(0);
     }
-    let list = short_list::list();
-    let row = table::row_of(n - 1);
-    sized(&list, row, n - 1, number, payload)
+    number_by_size(n, number, payload)
 }
 
-// Decodes a field of 2 to 8 bytes: in each case the size is a number that the compiler knows.
+// Decodes a field of 2 to 8 bytes in a number: in each case the size is a number that the compiler knows.
+fn number_by_size(n: usize, number: u64, payload: &mut [u8]) -> Answer
+    requires { ⌜ (1 < n) × (n ≤ 8) ⌝ }
+    ensures answer { λ r. ⌜ r ≡ decodeAnswer (fieldFrom n number) (length (now (payload .entry))) ⌝ }
+    ensures memory { λ r. ⌜ now (payload .exit) ≡ after r (payloadOf (fieldFrom n number)) (now (payload .entry)) ⌝ }
+{
+    let list = short_list::list();
+    match n {
+        2 => sized(&list, table::row_of(1), 1, number, payload),
+        3 => sized(&list, table::row_of(2), 2, number, payload),
+        4 => sized(&list, table::row_of(3), 3, number, payload),
+        5 => sized(&list, table::row_of(4), 4, number, payload),
+        6 => sized(&list, table::row_of(5), 5, number, payload),
+        7 => sized(&list, table::row_of(6), 6, number, payload),
+        _ => sized(&list, table::row_of(7), 7, number, payload),
+    }
+}
+
+// The same of a field in bytes.
 pub(crate) fn by_size(field: &[u8], payload: &mut [u8]) -> Answer
     requires { ⌜ (1 < length (now field)) × (length (now field) ≤ 8) ⌝ }
     ensures answer { λ r. ⌜ r ≡ decodeAnswer (now (field .entry)) (length (now (payload .entry))) ⌝ }
