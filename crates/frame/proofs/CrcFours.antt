@@ -1,5 +1,5 @@
 -- The CRC four bits at a time. Assumes nothing.
---     crc-four         four bits behind a row
+--     crc-next-four         four bits behind a row
 --     crc-list-at      at four bits the list holds their CRC
 --     crc-next         the next four bits where a loop counts down those that are left
 --     crc-behind       what the code's exclusive ors give
@@ -72,9 +72,9 @@ moved-up r h =
     ∙ linear-row 4 0 (hi * 2048) lo (omega arith) (omega arith)
     ∙ ap₂ (xor 15) (high-out hi (omega arith)) (remainder-short 4 11 lo 0 (omega arith) (omega arith) ∙ omega arith)
 
-pub crc-four : (l : List ℕ) (v : ℕ) → v < 16 → crc (l ++ bits 4 v) ≡ crcBehind (crc l) v
+pub crc-next-four : (l : List ℕ) (v : ℕ) → v < 16 → crc (l ++ bits 4 v) ≡ crcBehind (crc l) v
 unfolding crcBehind
-crc-four l v g =
+crc-next-four l v g =
     let m : ℕ = remainder 0 l in
     let r : ℕ = crc l in
     let hi : ℕ = r / 2048 in

@@ -10,7 +10,7 @@ use Rattle.bits.specs.Rows.{bits}
 use Rattle.frame.specs.Crc.{crc}
 use Rattle.frame.specs.CrcFours.{crcBehind}
 use Rattle.frame.specs.Fours.{fourAt}
-use Rattle.frame.proofs.CrcFours.{crc-four}
+use Rattle.frame.proofs.CrcFours.{crc-next-four}
 use Rattle.frame.proofs.FourBits.{fours-next, fours-none}
 use Rattle.frame.proofs.crc.bring_down.Statement.{statement}
 use Rattle.frame.proofs.crc.bring_down.Tie as tie
@@ -51,7 +51,7 @@ loop-again c =
           let front = loop .inv .2 l e in
           let m = front .0 in (
             m ++ bits 4 four,
-            c .divide .ensures .0 ∙ ap₂ crcBehind (front .1) (c .before .at .ensures .0) ∙ sym (crc-four m four (mod-lt _ (lit< tt))),
+            c .divide .ensures .0 ∙ ap₂ crcBehind (front .1) (c .before .at .ensures .0) ∙ sym (crc-next-four m four (mod-lt _ (lit< tt))),
             append-assoc m (bits 4 four) rest ∙ ap (λ (k : List ℕ). m ++ k) (sym (fours-next (loop .left) number (omega arith))) ∙ front .2,
           ),
     )
