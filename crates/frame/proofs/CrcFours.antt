@@ -2,7 +2,7 @@
 --     crc-next-four         four bits behind a row
 --     crc-list-at      at four bits the list holds their CRC
 --     crc-next         the next four bits where a loop counts down those that are left
---     crc-behind       what the code's exclusive ors give
+--     crc-behind       what the code's exclusive ors give, on a register that is moved up by one bit
 --     crc-nothing, crc-leading    the CRC of no bits is 0, and a bit 0 before a row changes nothing
 use mathlib.Core.Path.{_≡_, refl, sym, ap, ap₂, _∙_}
 use mathlib.Core.List.{List, [], _∷_, _++_}
@@ -16,7 +16,7 @@ use Rattle.bits.proofs.Numbers.{numbers-at}
 use Rattle.frame.specs.Crc.{xor, divide, remainder, crc}
 use Rattle.frame.specs.CrcFours.{crcList, crcBehind}
 use Rattle.frame.proofs.Division.{xor-is, xor-below, remainder-append, crc-below, remainder-below}
-use Rattle.frame.proofs.Linear.{medial, linear-row, remainder-short}
+use Rattle.frame.proofs.Linear.{xor-bring, medial, linear-row, remainder-short}
 
 -- 15 bits 0 brought down
 fifteen : ℕ → ℕ
@@ -93,22 +93,25 @@ crc-next-four l v g =
     (sym (fifteen-sum hi v (omega arith) (omega arith)) ∙ ap fifteen both ∙ sym (crc-alone (xor 4 hi v) (xor-below 4 hi v)))
     (xor-nothing up (omega arith))
 
-pub crc-list-at : (v : ℕ) → v < 16 → getD crcList v 0 ≡ crc (bits 4 v)
+pub crc-list-at : (v : ℕ) → v < 16 → getD crcList v 0 ≡ crc (bits 4 v) * 2
 unfolding crcList
-crc-list-at v h = numbers-at (λ (four : ℕ). crc (bits 4 four)) 0 16 v h
+crc-list-at v h = numbers-at (λ (four : ℕ). crc (bits 4 four) * 2) 0 16 v h
 
-pub crc-behind : (r v x : ℕ) → r < 2 ^ 15 → v < 16 → x ≡ getD crcList (bitXor (r / 2048) v) 0
-    → bitXor x (r % 2048 * 16) ≡ crcBehind r v
-unfolding crcBehind
-crc-behind r v x h g e =
-    let hi : ℕ = r / 2048 in
-    let both : bitXor hi v ≡ xor 4 hi v = xor-is 4 hi v (omega arith) g in
-    let at : x ≡ crc (bits 4 (xor 4 hi v)) = e ∙ ap (λ (n : ℕ). getD crcList n 0) both ∙ crc-list-at (xor 4 hi v) (xor-below 4 hi v) in
-    rw at (xor-is 15 (crc (bits 4 (xor 4 hi v))) (r % 2048 * 16) (crc-below _) (omega arith))
+-- two numbers that are moved up by one bit
+xor-up : (a b : ℕ) → a < 2 ^ 15 → b < 2 ^ 15 → bitXor (a * 2) (b * 2) ≡ xor 15 a b * 2
+xor-up a b h g =
+    let x : a * 2 ≡ a * 2 + 0 = omega arith in
+    let y : b * 2 ≡ b * 2 + 0 = omega arith in
+    xor-is 16 (a * 2) (b * 2) (omega arith) (omega arith) ∙ ap₂ (xor 16) x y ∙ xor-bring 15 a b 0 0 (lit< tt) (lit< tt) ∙ omega arith
 
-pub crc-behind-below : (r v : ℕ) → crcBehind r v < 2 ^ 15
+pub crc-behind : (x v : ℕ) → x < 2 ^ 15 → v < 16 → bitXor (getD crcList (bitXor (x * 2 / 4096) v) 0) (x * 2 * 16 % 65536) ≡ crcBehind x v * 2
 unfolding crcBehind
-crc-behind-below r v = xor-below 15 _ _
+crc-behind x v h g =
+    let hi : x * 2 / 4096 ≡ x / 2048 = omega arith in
+    let low : x * 2 * 16 % 65536 ≡ x % 2048 * 16 * 2 = omega arith in
+    let both : bitXor (x * 2 / 4096) v ≡ xor 4 (x / 2048) v = ap (λ (n : ℕ). bitXor n v) hi ∙ xor-is 4 (x / 2048) v (omega arith) g in
+    let at = ap (λ (n : ℕ). getD crcList n 0) both ∙ crc-list-at (xor 4 (x / 2048) v) (xor-below 4 (x / 2048) v) in
+    ap₂ bitXor at low ∙ xor-up (crc (bits 4 (xor 4 (x / 2048) v))) (x % 2048 * 16) (crc-below _) (omega arith)
 
 pub crc-nothing : crc [] ≡ 0
 unfolding crc remainder divide xor

@@ -14,8 +14,6 @@ use native.Mathlib.Omega.{arith}
 use lib.Bits.{bitXor, differ, xor-step, xor-zero-r}
 use lib.Dec.{lit<}
 use lib.ListN.{replicate}
-use Rattle.bits.specs.Rows.{bits}
-use Rattle.bits.proofs.Rows.{bits-next}
 use Rattle.frame.specs.Crc.{xor, divide, remainder, crc}
 
 differ-is : (x y : ℕ) → x < 2 → y < 2 → differ x y ≡ (x + y) % 2

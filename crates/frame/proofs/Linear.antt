@@ -1,4 +1,5 @@
 -- The long division is linear. Assumes nothing.
+--     xor-bring       one bit more on both
 --     medial          four numbers may be taken together in either order
 --     linear          a step of the division of a sum is the sum of the steps
 --     linear-row      a row that is brought down to a sum
@@ -14,8 +15,7 @@ use Rattle.bits.specs.Rows.{bits}
 use Rattle.frame.specs.Crc.{xor, divide, remainder}
 use Rattle.frame.proofs.Division.{xor-is, divide-below, divide-short}
 
--- one bit more on both
-xor-bring : (k p q x y : ℕ) → x < 2 → y < 2 → xor (suc k) (p * 2 + x) (q * 2 + y) ≡ xor k p q * 2 + (x + y) % 2
+pub xor-bring : (k p q x y : ℕ) → x < 2 → y < 2 → xor (suc k) (p * 2 + x) (q * 2 + y) ≡ xor k p q * 2 + (x + y) % 2
 unfolding xor
 xor-bring k p q x y hx hy =
     let e1 : (p * 2 + x) / 2 ≡ p = omega arith in

@@ -5,9 +5,9 @@ use Rattle.bits.specs.Numbers.{numbersFrom}
 use Rattle.bits.specs.Rows.{bits}
 use Rattle.frame.specs.Crc.{xor, crc}
 
--- the CRC of each four bits
+-- the CRC of each four bits, moved up by one bit
 unfoldable pub crcList : List ℕ
-crcList = map (λ (four : ℕ). crc (bits 4 four)) (numbersFrom 0 16)
+crcList = map (λ (four : ℕ). crc (bits 4 four) * 2) (numbersFrom 0 16)
 
 -- the CRC of a row, and of four bits behind it: what these and its own highest four leave, and its others moved up
 unfoldable pub crcBehind : ℕ → ℕ → ℕ

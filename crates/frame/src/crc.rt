@@ -26,13 +26,14 @@ pub(crate) fn of(header: u64, field: u64, n: usize) -> u64
     let list = crc_list::list();
     // A bit 0 before the header changes nothing.
     let register = bring_down(&list, 0, header, 5);
-    bring_down(&list, register, field, 2 * n)
+    (bring_down(&list, register, field, 2 * n) / 2) as u64
 }
 
-// The CRC of a row from that of its front, and the `count` times four bits behind it.
-fn bring_down(list: &[u16; 16], register: u64, number: u64, count: usize) -> u64
-    requires { ⌜ (now list ≡ crcList) × (register < 2 ^ 15) × (count ≤ 16) ⌝ }
-    ensures { λ r. ⌜ ((l : List ℕ) → register ≡ crc l → r ≡ crc (l ++ bits (4 * count) number)) × (r < 2 ^ 15) ⌝ }
+// The CRC of a row from that of its front, and the `count` times four bits behind it. Both are moved up by one bit, to the register's
+// top: what is divided there falls off.
+fn bring_down(list: &[u16; 16], register: u16, number: u64, count: usize) -> u16
+    requires { ⌜ (now list ≡ crcList) × (count ≤ 16) ⌝ }
+    ensures { λ r. ⌜ ((l : List ℕ) → register ≡ crc l * 2 → r ≡ crc (l ++ bits (4 * count) number) * 2) ⌝ }
 {
     let mut register = register;
     let mut left = count;
@@ -43,11 +44,11 @@ fn bring_down(list: &[u16; 16], register: u64, number: u64, count: usize) -> u64
     register
 }
 
-// Four bits are brought down: the register's highest four go out, and with them what they and the new ones leave comes in.
-fn divide(list: &[u16; 16], register: u64, four: u64) -> u64
-    requires { ⌜ (now list ≡ crcList) × (register < 2 ^ 15) × (four < 16) ⌝ }
-    ensures { λ r. ⌜ (r ≡ crcBehind register four) × (r < 2 ^ 15) ⌝ }
+// Four bits are brought down: the register's highest four go out, and what they and the new ones leave comes in.
+fn divide(list: &[u16; 16], register: u16, four: u64) -> u16
+    requires { ⌜ (now list ≡ crcList) × (four < 16) ⌝ }
+    ensures { λ r. ⌜ ((x : ℕ) → register ≡ x * 2 → r ≡ crcBehind x four * 2) ⌝ }
 {
-    let out = (register / 2048) ^ four;
-    (list[out as usize] as u64) ^ (register % 2048 * 16)
+    let out = (register >> 12) ^ (four as u16);
+    list[out as usize] ^ (register << 4)
 }

@@ -1,5 +1,5 @@
 -- `frame::crc::of` meets its contract: header and data field are brought down one after the other. Assumes nothing.
-use mathlib.Core.Path.{_≡_, sym, ap, ap₂, _∙_}
+use mathlib.Core.Path.{_≡_, sym, ap, ap₂, _∙_, subst}
 use mathlib.Core.List.{List, [], _∷_, _++_}
 use Prim.Native.Nat.{ℕ, _*_, _/_, _%_, _^_, _<_}
 use native.Mathlib.Omega.{arith}
@@ -7,6 +7,7 @@ use borrow.Author.Needs.{needs}
 use Rattle.bits.specs.Rows.{bits}
 use Rattle.bits.proofs.Rows.{bits-next}
 use Rattle.frame.specs.Crc.{crc}
+use Rattle.frame.proofs.Division.{crc-below}
 use Rattle.frame.proofs.CrcFours.{crc-nothing, crc-leading}
 use Rattle.frame.proofs.crc.of.Statement.{statement}
 use Rattle.frame.proofs.crc.of.Tie as tie
@@ -29,6 +30,9 @@ twenty h small =
     let top : h / 2 ^ 19 % 2 ≡ 0 = omega arith in
     bits-next 20 h (omega arith) ∙ ap (λ (b : ℕ). b ∷ bits 19 h) top
 
+cast-result : tie.Need-cast-result
+cast-result c = search needs
+
 returns : tie.Need-returns
 returns c =
     let start = c .before .before .before .before .before in
@@ -36,13 +40,16 @@ returns c =
     let n = start .args .n in
     let field = start .args .field in
     let all : 4 * (2 * n) ≡ 8 * n = omega arith in
-    let first = c .before .before .bring-down .ensures .0 [] (sym crc-nothing) in
-    let second = c .bring-down2 .ensures .0 (bits 20 h) first in (
-      second ∙ ap₂ (λ (l m : List ℕ). crc (l ++ m)) (twenty h (start .pre .0)) (ap (λ (k : ℕ). bits k field) all) ∙ crc-leading (bits 19 h ++ bits (8 * n) field),
-      c .bring-down2 .ensures .1,
-    )
+    let first = c .before .before .bring-down .ensures [] (ap (λ (x : ℕ). x * 2) (sym crc-nothing)) in
+    let second = c .bring-down2 .ensures (bits 20 h) first in
+    let half : c .bring-down2 .result / 2 ≡ crc (bits 20 h ++ bits (4 * (2 * n)) field) = omega (arith, second) in
+    let whole =
+    half
+    ∙ ap₂ (λ (l m : List ℕ). crc (l ++ m)) (twenty h (start .pre .0)) (ap (λ (k : ℕ). bits k field) all)
+    ∙ crc-leading (bits 19 h ++ bits (8 * n) field) in
+    (whole, subst (λ (x : ℕ). x < 2 ^ 15) (sym whole) (crc-below _))
 
 pub of-spec : {M : Type 1} → statement M
 of-spec =
     tie.close
-    (tie.spec list-requires bring-down-requires mul-bring-down bring-down-requires-2 returns)
+    (tie.spec list-requires bring-down-requires mul-bring-down bring-down-requires-2 cast-result returns)
