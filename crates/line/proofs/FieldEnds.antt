@@ -32,7 +32,7 @@ use Rattle.line.specs.declared.seen.Seen.{Seen}
 use Rattle.line.specs.declared.seen.Step.{Step}
 use Rattle.line.specs.declared.seen.Step.the-variants.{Next, Refused}
 use Rattle.line.proofs.Positions.{rowAt, startOf, endOf, end-is, next-start, Stage, before-dlc, dlc, data-bits, crc-bits, ending, stage, first-start, data-start, frame-end}
-use Rattle.line.proofs.Registers.{Fine, Registers, in-header, in-data, behind, dlc-known, dlc-read, header-put, field-put, crc-there, identifier-there, field-there}
+use Rattle.line.proofs.Registers.{Fine, Registers, in-header, in-data, in-crc, behind, crc-length, dlc-known, dlc-read, header-put, field-put, crc-there, identifier-there, field-there}
 use Rattle.line.proofs.Verdicts.{bit-too-many, dlc-taken, taken-dlc, length-refused, crc-refused, nothing-shown}
 use Rattle.line.proofs.RawBits.{none}
 use Rattle.line.proofs.Keeping.{bytes, rest, pending, Between, Within, least-not, missing}
@@ -95,7 +95,8 @@ nothing-behind f header field n frame place h not-dlc not-crc at registers = go 
         let is = known (omega arith) in
         nothing-shown frame place (λ d. dlc-taken frame (λ one. fine .not-one (sym is ∙ one)) (omega (arith, fine .few, is)))
         (λ d. absurd (omega (arith, at, is)))
-    go (data-bits g s e) (behind k i fine d l) = absurd (omega arith)
+    go (data-bits g s e) (in-crc k i fine d l) = absurd (omega arith)
+    go (data-bits g s e) (behind m i fine d l) = absurd (omega arith)
     go (crc-bits g s e) r = absurd (not-crc g)
     go (ending g s o e) r = nothing-shown frame place (λ d. absurd (omega (arith, at))) (λ d. absurd (omega (arith, at, known (omega arith))))
 
@@ -161,11 +162,12 @@ line-begins line =
 -- ---- behind a row's last bit
 
 -- the registers do not change where no part ends
-passed-on : (f header field n : ℕ) (frame : List ℕ) → (f ≡ 3 → ⊥) → (f ≡ 4 → ⊥) → Registers f header field n frame
+passed-on : (f header field n : ℕ) (frame : List ℕ) → (f ≡ 3 → ⊥) → (f ≡ 4 → ⊥) → (f ≡ 5 → ⊥) → Registers f header field n frame
     → Registers (f + 1) header field n frame
-passed-on f header field n frame not-dlc not-data (in-header g e l) = in-header (omega (arith, not-dlc)) e l
-passed-on f header field n frame not-dlc not-data (in-data k g fine e l) = absurd (not-data g)
-passed-on f header field n frame not-dlc not-data (behind k g fine e l) = behind k (omega arith) fine e l
+passed-on f header field n frame not-dlc not-data not-crc (in-header g e l) = in-header (omega (arith, not-dlc)) e l
+passed-on f header field n frame not-dlc not-data not-crc (in-data k g fine e l) = absurd (not-data g)
+passed-on f header field n frame not-dlc not-data not-crc (in-crc k g fine e l) = absurd (not-crc g)
+passed-on f header field n frame not-dlc not-data not-crc (behind m g fine e l) = behind m (omega arith) fine e l
 
 -- what the end of row f leads to
 abbrev pub Ends : List ℕ → ℕ → Run → List ℕ → Step → Type 0
@@ -191,7 +193,7 @@ module _ (line : List ℕ) (f : ℕ) (seen : Seen) (run : Run) (left : ℕ) (fra
   other-ends not-dlc not-data not-crc = rw (ne-eqb f 3 not-dlc, ne-eqb f 4 not-data, ne-eqb f 5 not-crc) (record {
     leads = leads right (nothing-here not-dlc not-crc);
     at-is = at ∙ next-start f (bytes seen);
-    registers = passed-on f (seen .header) (seen .field) (seen .number) frame not-dlc not-data (w .registers);
+    registers = passed-on f (seen .header) (seen .field) (seen .number) frame not-dlc not-data not-crc (w .registers);
     told = λ g. w .told (omega (arith, g));
     fresh = w .fresh;
     reached = w .reached;
@@ -241,7 +243,8 @@ module _ (line : List ℕ) (f : ℕ) (seen : Seen) (run : Run) (left : ℕ) (fra
                 behind = w .behind;
               }
       read (in-data k g fine e l) = absurd (omega arith)
-      read (behind k g fine e l) = absurd (omega arith)
+      read (in-crc k g fine e l) = absurd (omega arith)
+      read (behind m g fine e l) = absurd (omega arith)
 
   data-ends : f ≡ 4 → endOf f (bytes seen) ≡ 19 + 8 * bytes seen → Ends line f run frame (fieldRead seen)
   unfolding fieldRead
@@ -264,7 +267,8 @@ module _ (line : List ℕ) (f : ℕ) (seen : Seen) (run : Run) (left : ℕ) (fra
             reached = w .reached;
             behind = w .behind;
           }
-      read (behind k g fine e l) = absurd (omega arith)
+      read (in-crc k g fine e l) = absurd (omega arith)
+      read (behind m g fine e l) = absurd (omega arith)
 
   crc-ends : f ≡ 5 → endOf f (bytes seen) ≡ 34 + 8 * bytes seen → Ends line f run frame (crcRead seen)
   unfolding crcRead crcStart
@@ -273,7 +277,8 @@ module _ (line : List ℕ) (f : ℕ) (seen : Seen) (run : Run) (left : ℕ) (fra
       read : Registers f (seen .header) (seen .field) (seen .number) frame → Ends line f run frame (crcRead seen)
       read (in-header g e l) = absurd (omega arith)
       read (in-data k g fine e l) = absurd (omega arith)
-      read (behind k g fine e l) = go (crcRight frame) refl
+      read (behind m g fine e l) = absurd (omega arith)
+      read (in-crc k g fine e l) = go (crcRight frame) refl
         where
           there : crcRight frame ≡ eqb (seen .number) (crc (bits 19 (seen .header) ++ bits (8 * dataBytes (bytes seen)) (seen .field)))
           there = crc-there (seen .header) (seen .field) (seen .number) k frame fine e l
@@ -281,12 +286,14 @@ module _ (line : List ℕ) (f : ℕ) (seen : Seen) (run : Run) (left : ℕ) (fra
           last : length frame ≡ 19 + 8 * dlcIn frame + 15
           last = omega (arith, at, end, dlc-known f (seen .header) (seen .field) (seen .number) frame (w .registers) (omega arith))
 
+          fifteen : k ≡ 15
+          fifteen = omega (arith, at, end, crc-length (seen .header) (seen .field) (seen .number) k frame e)
+
           go : (t : Bool) → crcRight frame ≡ t → Ends line f run frame (crcRead seen)
           go true d = rw (sym there ∙ d) (record {
             leads = leads right (nothing-shown frame (seen .place - 1) (λ x. absurd (omega (arith, last))) (λ x. d));
             at-is = at ∙ next-start f (bytes seen);
-            registers =
-                passed-on f (seen .header) (seen .field) (seen .number) frame (λ d. omega arith) (λ d. omega arith) (w .registers);
+            registers = behind (bits k (seen .number)) (omega arith) fine e (rw fifteen at l);
             told = λ g. w .told (omega (arith, g));
             fresh = w .fresh;
             reached = w .reached;
@@ -344,7 +351,8 @@ module _ (line : List ℕ) (seen : Seen) (run : Run) (frame : List ℕ) (b : Bet
       holds : Registers 9 (seen .header) (seen .field) (seen .number) frame → Holds seen frame
       holds (in-header g e l) = absurd (omega arith)
       holds (in-data k g fine e l) = absurd (omega arith)
-      holds (behind k g fine e l) =
+      holds (in-crc k g fine e l) = absurd (omega arith)
+      holds (behind m g fine e l) =
           record {
             identifier-is = sym (ap identifierIn e ∙ identifier-there (seen .header) _);
             field-is = field-there (seen .header) (seen .field) _ frame e;

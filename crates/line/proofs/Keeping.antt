@@ -24,13 +24,13 @@ use Rattle.bits.specs.Stuffing.{counted}
 use Rattle.refusals.specs.declared.Refusal.the-variants.{LineByte, StuffBit, LineLength, FixedBit}
 use Rattle.line.specs.Fields.{fieldsOf, form, either}
 use Rattle.line.specs.Scan.{dlcIn, complete, crcStart, stuffDue, mustBe, Verdict, right, shown, verdict, runWith, frameWith, Scanned, stopped, onward, scan, scanned}
-use Rattle.line.specs.Steps.{rowsOf, least, bitAt, behindStuffBit, behindBit, dueIn, stuffBit, passed, fieldBit, andThen, lineBit}
+use Rattle.line.specs.Steps.{rowsOf, least, bitAt, behindStuffBit, oneOn, behindBit, behindEnding, behindIn, dueIn, stuffBit, passed, fieldBit, andThen, lineBit}
 use Rattle.line.specs.declared.seen.Seen.{Seen}
 use Rattle.line.specs.declared.seen.Step.{Step}
 use Rattle.line.specs.declared.seen.Step.the-variants.{Next, Refused}
 use Rattle.line.proofs.Positions.{rowAt, startOf, endOf, data-from, ending-from, header-end, data-end, crc-end, end-within, early-or-known, must-is, dueAt, due-is, not-complete}
 use Rattle.line.proofs.RawBits.{Tells, five-told, bit-told, told-more, told-stuff}
-use Rattle.line.proofs.Registers.{Registers, in-header, in-data, behind, bit-added, longer, data-length, behind-length, dlc-known}
+use Rattle.line.proofs.Registers.{Registers, in-header, in-data, in-crc, behind, bit-added, ending-added, longer, data-length, crc-length, dlc-known}
 use Rattle.line.proofs.Verdicts.{byte-above-1, sixth-bit, stuff-bit, fixed-bit, frame-bit, nothing-shown}
 
 -- the bytes of the data field, as the code has them
@@ -175,8 +175,9 @@ module _ (line : List ℕ) (f : ℕ) (seen : Seen) (run : Run) (left : ℕ) (fra
       small (in-header g e l) = below _ l (omega (arith, to, header-end f (bytes seen) g))
       small (in-data k g fine e l) =
           below k l (omega (arith, to, fine .few, data-end f (bytes seen) (omega arith), data-length (seen .header) (seen .number) k frame e))
-      small (behind k g fine e l) =
-          below k l (omega (arith, to, end-within f (bytes seen) h, behind-length (seen .header) (seen .field) (seen .number) k frame e))
+      small (in-crc k g fine e l) =
+          below k l (omega (arith, to, end-within f (bytes seen) h, crc-length (seen .header) (seen .field) (seen .number) k frame e))
+      small (behind m g fine e l) = below 15 l (omega arith)
 
   pub end-small : seen .end ≤ length line + 164
   end-small = omega (arith, w .end-is, w .at-is, w .reached, end-within f (bytes seen) h)
@@ -298,20 +299,26 @@ module _ (line : List ℕ) (f : ℕ) (seen : Seen) (run : Run) (left : ℕ) (fra
       more = frame ++ (b ∷ [])
 
       module _ (bit : b ≤ 1) where
-        added : Registers f (seen .header) (seen .field) (seen .number * 2 + b) more
+        added : f ≤ 5 → Registers f (seen .header) (seen .field) (seen .number * 2 + b) more
         unfolding more
-        added = bit-added f (seen .header) (seen .field) (seen .number) frame b (omega arith) (w .registers)
+        added g = bit-added f (seen .header) (seen .field) (seen .number) frame b (omega arith) g (w .registers)
+
+        -- behind the CRC
+        added-late : 5 < f → Registers f (seen .header) (seen .field) (seen .number) more
+        unfolding more
+        added-late g = ending-added f (seen .header) (seen .field) (seen .number) frame b g (w .registers)
 
         -- behind the row's last bit what the frame shows is left for later; before that it shows nothing
-        pending-is : pending (left - 1) more (seen .place + 1) ≡ shown more (seen .place)
+        pending-is : (number : ℕ) → Registers f (seen .header) (seen .field) number more
+            → pending (left - 1) more (seen .place + 1) ≡ shown more (seen .place)
         unfolding more
-        pending-is = go (left - 1) refl
+        pending-is number registers = go (left - 1) refl
           where
             go : (k : ℕ) → left - 1 ≡ k → pending k more (seen .place + 1) ≡ shown more (seen .place)
             go zero d = ap (shown more) (omega arith)
             go (suc k) d =
                 sym (shown-inside f (bytes seen) more (seen .place) (omega (arith, w .from, longer frame b)) (omega (arith, w .at-is, longer frame b))
-                (dlc-known f (seen .header) (seen .field) (seen .number * 2 + b) more added))
+                (dlc-known f (seen .header) (seen .field) number more registers))
 
         told-on : (mustBe frame ≡ 1 - b → ⊥) → f ≤ 5 → Tells (seen .raw * 2 % 2 ^ 64 + b) (runWith run b)
         told-on n g =
@@ -330,34 +337,52 @@ module _ (line : List ℕ) (f : ℕ) (seen : Seen) (run : Run) (left : ℕ) (fra
             not-five =
                 eqb-false _ _ (rw (le-ltb 5 f g) at (sym (due-is f (bytes seen) frame known (w .from) to run) ∙ due))
 
-        within-bit : (mustBe frame ≡ 1 - b → ⊥) → Within line f (behindBit b seen) (runWith run b) (left - 1) more
+        -- whatever raw bits and number are kept of it
+        within-on : (raw number : ℕ) → (mustBe frame ≡ 1 - b → ⊥) → Registers f (seen .header) (seen .field) number more
+            → (f ≤ 5 → Tells raw (runWith run b)) → Within line f (oneOn raw number seen) (runWith run b) (left - 1) more
         unfolding runWith frameWith more
-        within-bit n =
+        within-on raw number n registers told =
             record {
-              leads = rw pending-is (went _ (frame-bit run frame (seen .place) b begun bit due n) ∙ rw due refl);
+              leads = rw (pending-is number registers) (went _ (frame-bit run frame (seen .place) b begun bit due n) ∙ rw due refl);
               end-is = omega (arith, w .end-is);
               stop-is = w .stop-is;
               at-is = omega (arith, w .at-is, longer frame b);
               from = omega (arith, w .from, longer frame b);
-              registers = added;
-              told = told-on n;
+              registers = registers;
+              told = told;
               fresh = λ e. absurd (counted-some run b e);
               reached = omega (arith, inside);
               behind = omega (arith, w .behind, longer frame b);
             }
 
-      field-goes : (must : ℕ) → mustBe frame ≡ must → Goes line f seen (fieldBit must line seen)
+        within-bit : (mustBe frame ≡ 1 - b → ⊥) → Within line f (behindIn f b seen) (runWith run b) (left - 1) more
+        within-bit n = go (ltb 5 f) refl
+          where
+            go : (t : Bool) → ltb 5 f ≡ t
+                → Within line f (cond t (behindEnding seen) (behindBit b seen)) (runWith run b) (left - 1) more
+            go true d = let late = ltb-true 5 f d in within-on _ _ n (added-late late) (λ g. absurd (omega arith))
+            go false d = within-on _ _ n (added (ltb-false 5 f d)) (told-on n)
+
+        -- one place on, whatever is kept
+        on : seen .place < behindIn f b seen .place
+        on = go (ltb 5 f)
+          where
+            go : (t : Bool) → seen .place < cond t (behindEnding seen) (behindBit b seen) .place
+            go true = omega arith
+            go false = omega arith
+
+      field-goes : (must : ℕ) → mustBe frame ≡ must → Goes line f seen (fieldBit f must line seen)
       unfolding fieldBit b
       field-goes must m = byte (ltb 1 b) refl
         where
           fixed-goes : b ≤ 1 → (t : Bool) → eqb must (1 - b) ≡ t
-              → Goes line f seen (cond t (Refused (FixedBit (seen .place))) (Next (behindBit b seen)))
+              → Goes line f seen (cond t (Refused (FixedBit (seen .place))) (Next (behindIn f b seen)))
           fixed-goes bit true d = went _ (fixed-bit run frame (seen .place) b begun bit due (m ∙ eqb-true _ _ d))
-          fixed-goes bit false d = (runWith run b, left - 1, more, within-bit bit (λ e. eqb-false _ _ d (sym m ∙ e)), inside, omega arith)
+          fixed-goes bit false d = (runWith run b, left - 1, more, within-bit bit (λ e. eqb-false _ _ d (sym m ∙ e)), inside, on bit)
 
           byte : (t : Bool) → ltb 1 b ≡ t
               → Goes line f seen
-              (cond t (Refused (LineByte (seen .place))) (cond (eqb must (1 - b)) (Refused (FixedBit (seen .place))) (Next (behindBit b seen))))
+              (cond t (Refused (LineByte (seen .place))) (cond (eqb must (1 - b)) (Refused (FixedBit (seen .place))) (Next (behindIn f b seen))))
           byte true d = went _ (byte-above-1 run frame (seen .place) b begun (ltb-true _ _ d))
           byte false d = fixed-goes (ltb-false _ _ d) (eqb must (1 - b)) refl
 
@@ -377,9 +402,9 @@ bit-goes line f seen run left frame h w before must m = go (passed f line seen) 
     further next (Next last) l i g = (g .0, g .1, g .2, g .3, i, omega (arith, g .5))
     further next (Refused refusal) l i g = g
 
-    go : (s : Step) → Passes line f seen left frame s → Goes line f seen (andThen s (fieldBit must line))
+    go : (s : Step) → Passes line f seen left frame s → Goes line f seen (andThen s (fieldBit f must line))
     go (Next next) (r, v, due, l, k) =
         let inner = least-both (next .end) (length line) (next .place) (rw (v .stop-is) at l) in
-        further next (fieldBit must line next) k (both .1)
+        further next (fieldBit f must line next) k (both .1)
         (field-goes line f next r left frame h v some (inner .1) due must m)
     go (Refused refusal) e = e

@@ -14,49 +14,54 @@ use lib.ListN.{length}
 use borrow.Author.Tests.{lt-ltb, le-ltb, eq-eqb, ne-eqb, ltb-true, ltb-false, leb-false, eqb-true, eqb-false}
 use Rattle.refusals.specs.declared.Refusal.{Refusal}
 use Rattle.refusals.specs.declared.Refusal.the-variants.{LineByte, StuffBit, LineLength, FixedBit}
-use Rattle.line.specs.Steps.{bitAt, behindStuffBit, behindBit, dueIn, stuffBit, passed, aboveMost, endingBit, fieldBit, andThen, lineBit}
+use Rattle.line.specs.Steps.{bitAt, behindStuffBit, behindBit, behindEnding, behindIn, dueIn, stuffBit, passed, aboveMost, endingBit, fieldBit, andThen, lineBit}
 use Rattle.line.specs.declared.seen.Seen.{Seen}
 use Rattle.line.specs.declared.seen.Step.{Step}
 use Rattle.line.specs.declared.seen.Step.the-variants.{Next, Refused}
 
-module _ (line : List ℕ) (must : ℕ) (seen : Seen) (may : must ≤ 2) where
+module _ (line : List ℕ) (f must : ℕ) (seen : Seen) (may : must ≤ 2) where
   bit : ℕ
   bit = bitAt line seen
 
-  no-bit : 1 < bit → Refused (LineByte (seen .place)) ≡ fieldBit must line seen
+  no-bit : 1 < bit → Refused (LineByte (seen .place)) ≡ fieldBit f must line seen
   unfolding fieldBit bit
   no-bit h = simp (lt-ltb 1 bit h)
 
-  wrong-bit : bit ≤ 1 → must ≡ 1 - bit → Refused (FixedBit (seen .place)) ≡ fieldBit must line seen
+  wrong-bit : bit ≤ 1 → must ≡ 1 - bit → Refused (FixedBit (seen .place)) ≡ fieldBit f must line seen
   unfolding fieldBit bit
   wrong-bit h e = simp (le-ltb 1 bit h, eq-eqb must (1 - bit) e)
 
-  right-bit : bit ≤ 1 → (must ≡ 1 - bit → ⊥) → Next (behindBit bit seen) ≡ fieldBit must line seen
+  right-bit : bit ≤ 1 → (must ≡ 1 - bit → ⊥) → Next (behindIn f bit seen) ≡ fieldBit f must line seen
   unfolding fieldBit bit
   right-bit h n = simp (le-ltb 1 bit h, ne-eqb must (1 - bit) n)
 
-  pub above-most : (must + 1) / 2 < bitAt line seen → aboveMost must (bitAt line seen) (seen .place) ≡ fieldBit must line seen
+  pub above-most : (must + 1) / 2 < bitAt line seen → aboveMost must (bitAt line seen) (seen .place) ≡ fieldBit f must line seen
   unfolding aboveMost bit
   above-most h = go (eqb (must + bit) 1) refl
     where
       go : (t : Bool) → eqb (must + bit) 1 ≡ t
-          → cond t (Refused (FixedBit (seen .place))) (Refused (LineByte (seen .place))) ≡ fieldBit must line seen
+          → cond t (Refused (FixedBit (seen .place))) (Refused (LineByte (seen .place))) ≡ fieldBit f must line seen
       go true d = let sum = eqb-true (must + bit) 1 d in wrong-bit (omega arith) (omega arith)
       go false d = let sum = eqb-false (must + bit) 1 d in no-bit (omega arith)
 
   module _ (low : bitAt line seen ≤ (must + 1) / 2) where
-    pub ending-is : endingBit must (bitAt line seen) seen ≡ fieldBit must line seen
+    pub ending-is : 5 < f → endingBit must (bitAt line seen) seen ≡ fieldBit f must line seen
     unfolding endingBit bit
-    ending-is = go (ltb bit (must % 2)) refl
+    ending-is h = go (ltb bit (must % 2)) refl
       where
-        go : (t : Bool) → ltb bit (must % 2) ≡ t
-            → cond t (Refused (FixedBit (seen .place))) (Next (behindBit bit seen)) ≡ fieldBit must line seen
-        go true d = let less = ltb-true bit (must % 2) d in wrong-bit (omega arith) (omega arith)
-        go false d = let more = ltb-false bit (must % 2) d in right-bit (omega arith) (λ e. omega arith)
+        chosen : behindIn f bit seen ≡ behindEnding seen
+        chosen = rw (lt-ltb 5 f h) refl
 
-    pub plain-is : (f : ℕ) → 6 * (must % 2) ≤ f → f ≤ 5 → Next (behindBit (bitAt line seen) seen) ≡ fieldBit must line seen
+        go : (t : Bool) → ltb bit (must % 2) ≡ t
+            → cond t (Refused (FixedBit (seen .place))) (Next (behindEnding seen)) ≡ fieldBit f must line seen
+        go true d = let less = ltb-true bit (must % 2) d in wrong-bit (omega arith) (omega arith)
+        go false d = let more = ltb-false bit (must % 2) d in ap Next (sym chosen) ∙ right-bit (omega arith) (λ e. omega arith)
+
+    pub plain-is : 6 * (must % 2) ≤ f → f ≤ 5 → Next (behindBit (bitAt line seen) seen) ≡ fieldBit f must line seen
     unfolding bit
-    plain-is f g h = right-bit (omega arith) (λ e. omega arith)
+    plain-is g h =
+        let chosen : behindIn f bit seen ≡ behindBit bit seen = rw (le-ltb 5 f h) refl in
+        ap Next (sym chosen) ∙ right-bit (omega arith) (λ e. omega arith)
 
 -- ---- with the stuff bit before it
 
@@ -98,11 +103,11 @@ pub passed-inside : (line : List ℕ) (f : ℕ) (seen next : Seen) → seen .pla
 passed-inside line f seen next h e = rw (← e) at (inside line f seen h)
 
 pub passed-on : (line : List ℕ) (f must : ℕ) (seen next : Seen) → Next next ≡ passed f line seen
-    → fieldBit must line next ≡ lineBit f must line seen
+    → fieldBit f must line next ≡ lineBit f must line seen
 unfolding lineBit
-passed-on line f must seen next e = ap (λ (s : Step). andThen s (fieldBit must line)) e
+passed-on line f must seen next e = ap (λ (s : Step). andThen s (fieldBit f must line)) e
 
 pub passed-refused : (line : List ℕ) (f must : ℕ) (seen : Seen) (refusal : Refusal) → Refused refusal ≡ passed f line seen
     → Refused refusal ≡ lineBit f must line seen
 unfolding lineBit
-passed-refused line f must seen refusal e = ap (λ (s : Step). andThen s (fieldBit must line)) e
+passed-refused line f must seen refusal e = ap (λ (s : Step). andThen s (fieldBit f must line)) e

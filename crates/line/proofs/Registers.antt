@@ -1,8 +1,9 @@
 -- The registers hold the frame's bits. Assumes nothing.
 --     Fine           a header whose DLC is not refused
---     Registers      the bits of the present part are in `number`, those of the parts before it in `header` and `field`
---     longer, bit-added    a bit more
---     data-length, behind-length    how many bits that makes
+--     Registers      the bits of the present part are in `number`, those of the parts before it in `header` and `field`;
+--                    those behind the CRC are not kept
+--     longer, bit-added, ending-added    a bit more
+--     data-length, crc-length    how many bits that makes
 --     dlc-known, dlc-read    the DLC, once the header is read, and as its last bit is
 --     header-put, field-put    behind their last bit header and data field are put by
 --     crc-there      the CRC that stands in the frame is right exactly when the registers say so
@@ -37,7 +38,9 @@ pub record Fine (header : ℕ) : Type 0 where
 pub data Registers (f header field n : ℕ) (frame : List ℕ) : Type 0 where
   in-header : f ≤ 3 → frame ≡ bits (length frame) n → n < 2 ^ length frame → Registers f header field n frame
   in-data : (k : ℕ) → f ≡ 4 → Fine header → frame ≡ bits 19 header ++ bits k n → n < 2 ^ k → Registers f header field n frame
-  behind : (k : ℕ) → 4 < f → Fine header → frame ≡ bits 19 header ++ (bits (8 * (header % 16)) field ++ bits k n) → n < 2 ^ k
+  in-crc : (k : ℕ) → f ≡ 5 → Fine header → frame ≡ bits 19 header ++ (bits (8 * (header % 16)) field ++ bits k n) → n < 2 ^ k
+      → Registers f header field n frame
+  behind : (l : List ℕ) → 5 < f → Fine header → frame ≡ bits 19 header ++ (bits (8 * (header % 16)) field ++ l) → n < 2 ^ 15
       → Registers f header field n frame
 
 -- ---- a bit more
@@ -54,18 +57,27 @@ one-more-below k n b h g = rw pow-suc (omega arith)
 pub longer : (l : List ℕ) (b : ℕ) → length (l ++ (b ∷ [])) ≡ suc (length l)
 longer l b = length-append l (b ∷ []) ∙ add-one (length l)
 
-pub bit-added : (f header field n : ℕ) (frame : List ℕ) (b : ℕ) → b < 2 → Registers f header field n frame
+pub bit-added : (f header field n : ℕ) (frame : List ℕ) (b : ℕ) → b < 2 → f ≤ 5 → Registers f header field n frame
     → Registers f header field (n * 2 + b) (frame ++ (b ∷ []))
-bit-added f header field n frame b h (in-header g e l) =
+bit-added f header field n frame b h up (in-header g e l) =
     in-header g
     (ap (λ (l : List ℕ). l ++ (b ∷ [])) e ∙ one-more (length frame) n b h ∙ ap (λ (k : ℕ). bits k (n * 2 + b)) (sym (longer frame b)))
     (rw (longer frame b) (one-more-below (length frame) n b h l))
-bit-added f header field n frame b h (in-data k g fine e l) =
+bit-added f header field n frame b h up (in-data k g fine e l) =
     in-data (suc k) g fine (rw (e, append-assoc) (ap (λ (l : List ℕ). bits 19 header ++ l) (one-more k n b h))) (one-more-below k n b h l)
-bit-added f header field n frame b h (behind k g fine e l) =
-    behind (suc k) g fine
+bit-added f header field n frame b h up (in-crc k g fine e l) =
+    in-crc (suc k) g fine
     (rw (e, append-assoc, append-assoc) (ap (λ (l : List ℕ). bits 19 header ++ (bits (8 * (header % 16)) field ++ l)) (one-more k n b h)))
     (one-more-below k n b h l)
+bit-added f header field n frame b h up (behind m g fine e l) = absurd (omega arith)
+
+pub ending-added : (f header field n : ℕ) (frame : List ℕ) (b : ℕ) → 5 < f → Registers f header field n frame
+    → Registers f header field n (frame ++ (b ∷ []))
+ending-added f header field n frame b late (in-header g e l) = absurd (omega arith)
+ending-added f header field n frame b late (in-data k g fine e l) = absurd (omega arith)
+ending-added f header field n frame b late (in-crc k g fine e l) = absurd (omega arith)
+ending-added f header field n frame b late (behind m g fine e l) =
+    behind (m ++ (b ∷ [])) g fine (rw (e, append-assoc, append-assoc) refl) l
 
 -- ---- what they say
 
@@ -75,9 +87,9 @@ start-length header l = length-append (bits 19 header) l ∙ ap (λ (k : ℕ). k
 pub data-length : (header n k : ℕ) (frame : List ℕ) → frame ≡ bits 19 header ++ bits k n → length frame ≡ 19 + k
 data-length header n k frame e = ap length e ∙ start-length header (bits k n) ∙ ap (λ (j : ℕ). 19 + j) (bits-length k n)
 
-pub behind-length : (header field n k : ℕ) (frame : List ℕ) → frame ≡ bits 19 header ++ (bits (8 * (header % 16)) field ++ bits k n)
+pub crc-length : (header field n k : ℕ) (frame : List ℕ) → frame ≡ bits 19 header ++ (bits (8 * (header % 16)) field ++ bits k n)
     → length frame ≡ 19 + 8 * (header % 16) + k
-behind-length header field n k frame e =
+crc-length header field n k frame e =
     ap length e ∙ start-length header _
     ∙ omega (arith, length-append (bits (8 * (header % 16)) field) (bits k n), bits-length (8 * (header % 16)) field, bits-length k n)
 
@@ -94,7 +106,8 @@ dlc-in header l =
 pub dlc-known : (f header field n : ℕ) (frame : List ℕ) → Registers f header field n frame → 3 < f → dlcIn frame ≡ header % 16
 dlc-known f header field n frame (in-header g e l) h = absurd (omega arith)
 dlc-known f header field n frame (in-data k g fine e l) h = ap dlcIn e ∙ dlc-in header (bits k n)
-dlc-known f header field n frame (behind k g fine e l) h = ap dlcIn e ∙ dlc-in header _
+dlc-known f header field n frame (in-crc k g fine e l) h = ap dlcIn e ∙ dlc-in header _
+dlc-known f header field n frame (behind m g fine e l) h = ap dlcIn e ∙ dlc-in header _
 
 -- ---- behind the last bit of a part
 
@@ -111,7 +124,7 @@ pub field-put : (header n k : ℕ) (frame : List ℕ) → length frame ≡ 19 + 
 unfolding bits
 field-put header n k frame h fine e =
     let count : k ≡ 8 * (header % 16) = omega (arith, h, data-length header n k frame e) in
-    behind 0 (lit< tt) fine
+    in-crc 0 refl fine
     (e ∙ ap (λ (m : List ℕ). bits 19 header ++ m) (ap (λ (j : ℕ). bits j n) count ∙ sym (append-nil (bits (8 * (header % 16)) n)))) (lit< tt)
 
 -- the frame's bits before the CRC, and their number

@@ -44,7 +44,7 @@ bitAt line seen = getD line (seen .place) 0
 unfoldable pub dueIn : ℕ → ℕ → Bool
 dueIn f raw = cond (ltb 5 f) false (ltb ((raw % 32 + 1) % 32) 2)
 
--- what is seen behind a stuff bit, and behind a bit of the frame
+-- what is seen behind a stuff bit
 abbrev pub behindStuffBit : List ℕ → Seen → Seen
 behindStuffBit line seen =
     record {
@@ -57,17 +57,28 @@ behindStuffBit line seen =
       field = seen .field;
     }
 
-abbrev pub behindBit : ℕ → Seen → Seen
-behindBit bit seen =
+-- one place on, with these raw bits and this number
+abbrev pub oneOn : ℕ → ℕ → Seen → Seen
+oneOn raw number seen =
     record {
       stop = seen .stop;
       end = seen .end;
       place = seen .place + 1;
-      raw = seen .raw * 2 % 2 ^ 64 + bit;
-      number = seen .number * 2 + bit;
+      raw = raw;
+      number = number;
       header = seen .header;
       field = seen .field;
     }
+
+-- what is seen behind a bit of row f; it is kept up to the CRC
+abbrev pub behindBit : ℕ → Seen → Seen
+behindBit bit seen = oneOn (seen .raw * 2 % 2 ^ 64 + bit) (seen .number * 2 + bit) seen
+
+abbrev pub behindEnding : Seen → Seen
+behindEnding seen = oneOn (seen .raw) (seen .number) seen
+
+abbrev pub behindIn : ℕ → ℕ → Seen → Seen
+behindIn f bit seen = cond (ltb 5 f) (behindEnding seen) (behindBit bit seen)
 
 -- a bit where a stuff bit is due
 unfoldable pub stuffBit : List ℕ → Seen → Step
@@ -87,14 +98,14 @@ aboveMost must bit place = cond (eqb (must + bit) 1) (Refused (FixedBit place)) 
 
 -- a bit behind the CRC: a 0 may not stand where a 1 must
 unfoldable pub endingBit : ℕ → ℕ → Seen → Step
-endingBit must bit seen = cond (ltb bit (must % 2)) (Refused (FixedBit (seen .place))) (Next (behindBit bit seen))
+endingBit must bit seen = cond (ltb bit (must % 2)) (Refused (FixedBit (seen .place))) (Next (behindEnding seen))
 
--- a bit of a row whose bits must be `must`
-unfoldable pub fieldBit : ℕ → List ℕ → Seen → Step
-fieldBit must line seen =
+-- a bit of row f, whose bits must be `must`
+unfoldable pub fieldBit : ℕ → ℕ → List ℕ → Seen → Step
+fieldBit f must line seen =
     cond (ltb 1 (bitAt line seen)) (Refused (LineByte (seen .place)))
     (cond (eqb must (1 - bitAt line seen)) (Refused (FixedBit (seen .place)))
-    (Next (behindBit (bitAt line seen) seen)))
+    (Next (behindIn f (bitAt line seen) seen)))
 
 abbrev pub andThen : Step → (Seen → Step) → Step
 andThen (Next seen) next = next seen
@@ -102,7 +113,7 @@ andThen (Refused refusal) next = Refused refusal
 
 -- the next bit of row f, and the stuff bit before it
 unfoldable pub lineBit : ℕ → ℕ → List ℕ → Seen → Step
-lineBit f must line seen = andThen (passed f line seen) (fieldBit must line)
+lineBit f must line seen = andThen (passed f line seen) (fieldBit f must line)
 
 -- how many bits row f has, from the table's number of them and the header
 unfoldable pub width : ℕ → ℕ → ℕ → ℕ

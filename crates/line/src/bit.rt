@@ -23,7 +23,7 @@ pub(crate) fn next(line: &[u8], field: usize, must: u8, seen: Seen) -> Step
 // A bit of a field; the bits of the field must be `must`, where that is 0 or 1.
 fn field_bit(line: &[u8], field: usize, must: u8, seen: Seen) -> Step
     requires { ⌜ (seen .place < length (now line)) × (seen .number < 2 ^ 63) × (must ≤ 2) × (6 * (must % 2) ≤ field) ⌝ }
-    ensures { λ r. ⌜ r ≡ fieldBit must (now (line .entry)) seen ⌝ }
+    ensures { λ r. ⌜ r ≡ fieldBit field must (now (line .entry)) seen ⌝ }
 {
     let place = seen.place;
     let must = must as u64;
@@ -49,18 +49,20 @@ fn wrong(must: u64, bit: u64, place: usize) -> Step
     Step::Refused(Refusal::LineByte(place))
 }
 
-// Only behind the CRC must a bit be 1.
+// Only behind the CRC must a bit be 1. There nothing asks for the bits any more.
 fn ending_bit(must: u64, bit: u64, seen: Seen) -> Step
-    requires { ⌜ (bit ≤ 1) × (seen .place < 2 ^ 63) × (seen .number < 2 ^ 63) ⌝ }
+    requires { ⌜ seen .place < 2 ^ 63 ⌝ }
     ensures { λ r. ⌜ r ≡ endingBit must bit seen ⌝ }
 {
     if bit < must % 2 {
         return Step::Refused(Refusal::FixedBit(seen.place));
     }
-    Step::Next(behind(bit, seen))
+    let mut next = seen;
+    next.place = seen.place + 1;
+    Step::Next(next)
 }
 
-// What is seen behind a bit that is right.
+// What is seen behind a bit that is right, up to the CRC.
 fn behind(bit: u64, seen: Seen) -> Seen
     requires { ⌜ (bit ≤ 1) × (seen .place < 2 ^ 63) × (seen .number < 2 ^ 63) ⌝ }
     ensures { λ r. ⌜ r ≡ behindBit bit seen ⌝ }

@@ -9,12 +9,12 @@ returns : tie.Need-returns
 unfolding endingBit
 returns c = simp (lt-ltb _ _ (c .if1 .taken))
 
-behind-requires : tie.Need-behind-requires
-behind-requires c κs = search needs
+add-next : tie.Need-add-next
+add-next c = search needs
 
 returns-2 : tie.Need-returns-2
 unfolding endingBit
-returns-2 c = simp (le-ltb _ _ (c .before .if1 .left), c .behind .ensures)
+returns-2 c = simp (le-ltb _ _ (c .before .if1 .left))
 
 pub ending-bit-spec : {M : Type 1} → statement M
-ending-bit-spec = tie.close (tie.spec returns behind-requires returns-2)
+ending-bit-spec = tie.close (tie.spec returns add-next returns-2)

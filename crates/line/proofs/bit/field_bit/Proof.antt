@@ -24,7 +24,7 @@ wrong-requires c κs =
 returns : tie.Need-returns
 returns c =
     let start = c .before .before .before .before in
-    c .wrong .ensures ∙ above-most _ _ _ (start .pre .2) (c .before .if1 .taken)
+    c .wrong .ensures ∙ above-most _ _ _ _ (start .pre .2) (c .before .if1 .taken)
 
 ending-bit-requires : tie.Need-ending-bit-requires
 ending-bit-requires c κs = search needs
@@ -32,7 +32,7 @@ ending-bit-requires c κs = search needs
 returns-2 : tie.Need-returns-2
 returns-2 c =
     let start = c .before .before .before .before .before in
-    c .ending-bit .ensures ∙ ending-is _ _ _ (start .pre .2) (c .before .before .if1 .left)
+    c .ending-bit .ensures ∙ ending-is _ _ _ _ (start .pre .2) (c .before .before .if1 .left) (c .before .if2 .taken)
 
 behind-requires : tie.Need-behind-requires
 behind-requires c κs = search needs
@@ -40,7 +40,7 @@ behind-requires c κs = search needs
 returns-3 : tie.Need-returns-3
 returns-3 c =
     let start = c .before .before .before .before .before in
-    ap Next (c .behind .ensures) ∙ plain-is _ _ _ (start .pre .2) (c .before .before .if1 .left) _ (start .pre .3) (c .before .if2 .left)
+    ap Next (c .behind .ensures) ∙ plain-is _ _ _ _ (start .pre .2) (c .before .before .if1 .left) (start .pre .3) (c .before .if2 .left)
 
 pub field-bit-spec : {M : Type 1} → statement M
 field-bit-spec =
