@@ -42,13 +42,13 @@ other-field : (f n : ℕ) → (f ≡ 4 → ⊥) → rowAt f (rowsOf n) ≡ rowAt
 unfolding rowsOf
 other-field f n h = getD-set-other (rowsOf 0) 4 f (free (8 * n)) (fixed 0 0) h
 
-pub width-is : (f header : ℕ) → width f (rowAt f (rowsOf 0) .bits) header ≡ rowAt f (rowsOf (header % 16)) .bits
+pub width-is : (f n : ℕ) → width f (rowAt f (rowsOf 0) .bits) (8 * n) ≡ rowAt f (rowsOf n) .bits
 unfolding width rowsOf
-width-is f header = go (eqb f 4) refl
+width-is f n = go (eqb f 4) refl
   where
-    go : (t : Bool) → eqb f 4 ≡ t → cond t (8 * (header % 16)) (rowAt f (rowsOf 0) .bits) ≡ rowAt f (rowsOf (header % 16)) .bits
-    go true e = sym (ap (λ (k : ℕ). rowAt k (rowsOf (header % 16)) .bits) (eqb-true f 4 e))
-    go false e = sym (ap (λ (x : Field). x .bits) (other-field f (header % 16) (eqb-false f 4 e)))
+    go : (t : Bool) → eqb f 4 ≡ t → cond t (8 * n) (rowAt f (rowsOf 0) .bits) ≡ rowAt f (rowsOf n) .bits
+    go true e = sym (ap (λ (k : ℕ). rowAt k (rowsOf n) .bits) (eqb-true f 4 e))
+    go false e = sym (ap (λ (x : Field). x .bits) (other-field f n (eqb-false f 4 e)))
 
 pub bit-is : (f n : ℕ) → rowAt f (rowsOf 0) .bit ≡ rowAt f (rowsOf n) .bit
 unfolding rowsOf
@@ -110,6 +110,7 @@ begun line seen count =
       raw = seen .raw;
       number = seen .number;
       header = seen .header;
+      wide = seen .wide;
       field = seen .field;
     }
 
@@ -123,6 +124,7 @@ field-begins line f seen run frame count h e b =
       stop-is = refl;
       at-is = end;
       from = omega (arith, b .at-is);
+      wide-is = b .wide-is;
       registers = b .registers;
       told = b .told;
       fresh = b .fresh;
@@ -146,12 +148,13 @@ field-begins line f seen run frame count h e b =
 
 -- before the first row
 pub line-begins : (line : List ℕ)
-    → Between line 0 (record { stop = 0; end = 0; place = 0; raw = 1; number = 0; header = 0; field = 0 }) nothingSent []
+    → Between line 0 (record { stop = 0; end = 0; place = 0; raw = 1; number = 0; header = 0; wide = 0; field = 0 }) nothingSent []
 unfolding scanned bits
 line-begins line =
     record {
       leads = refl;
       at-is = sym (first-start 0);
+      wide-is = refl;
       registers = in-header (omega arith) refl (lit< tt);
       told = λ h. none refl refl refl;
       fresh = λ e. refl;
@@ -193,6 +196,7 @@ module _ (line : List ℕ) (f : ℕ) (seen : Seen) (run : Run) (left : ℕ) (fra
   other-ends not-dlc not-data not-crc = rw (ne-eqb f 3 not-dlc, ne-eqb f 4 not-data, ne-eqb f 5 not-crc) (record {
     leads = leads right (nothing-here not-dlc not-crc);
     at-is = at ∙ next-start f (bytes seen);
+    wide-is = w .wide-is;
     registers = passed-on f (seen .header) (seen .field) (seen .number) frame not-dlc not-data not-crc (w .registers);
     told = λ g. w .told (omega (arith, g));
     fresh = w .fresh;
@@ -224,6 +228,7 @@ module _ (line : List ℕ) (f : ℕ) (seen : Seen) (run : Run) (left : ℕ) (fra
                 raw = seen .raw;
                 number = 0;
                 header = n;
+                wide = 8 * (n % 16);
                 field = seen .field;
               })))
           go true d = leads _ (length-refused frame (seen .place - 1) nineteen (rw there d))
@@ -234,6 +239,7 @@ module _ (line : List ℕ) (f : ℕ) (seen : Seen) (run : Run) (left : ℕ) (fra
               record {
                 leads = leads right (nothing-shown frame (seen .place - 1) (λ x. rw there d) (λ x. absurd (omega (arith, nineteen))));
                 at-is = nineteen ∙ sym (ap (λ (k : ℕ). startOf k (n % 16)) next ∙ data-start (n % 16));
+                wide-is = refl;
                 registers =
                     subst (λ (k : ℕ). Registers k n (seen .field) 0 frame) (sym next)
                     (header-put (seen .field) n frame nineteen fine e);
@@ -259,6 +265,7 @@ module _ (line : List ℕ) (f : ℕ) (seen : Seen) (run : Run) (left : ℕ) (fra
           record {
             leads = leads right (nothing-here (λ d. omega arith) (λ d. omega arith));
             at-is = at ∙ next-start f (bytes seen);
+            wide-is = w .wide-is;
             registers =
                 subst (λ (k : ℕ). Registers k (seen .header) (seen .number) 0 frame) (sym next)
                 (field-put (seen .header) (seen .number) k frame (at ∙ end) fine e);
@@ -293,6 +300,7 @@ module _ (line : List ℕ) (f : ℕ) (seen : Seen) (run : Run) (left : ℕ) (fra
           go true d = rw (sym there ∙ d) (record {
             leads = leads right (nothing-shown frame (seen .place - 1) (λ x. absurd (omega (arith, last))) (λ x. d));
             at-is = at ∙ next-start f (bytes seen);
+            wide-is = w .wide-is;
             registers = behind (bits k (seen .number)) (omega arith) fine e (rw fifteen at l);
             told = λ g. w .told (omega (arith, g));
             fresh = w .fresh;

@@ -54,6 +54,7 @@ behindStuffBit line seen =
       raw = 1 + seen .raw % 2;
       number = seen .number;
       header = seen .header;
+      wide = seen .wide;
       field = seen .field;
     }
 
@@ -67,6 +68,7 @@ oneOn raw number seen =
       raw = raw;
       number = number;
       header = seen .header;
+      wide = seen .wide;
       field = seen .field;
     }
 
@@ -115,9 +117,9 @@ andThen (Refused refusal) next = Refused refusal
 unfoldable pub lineBit : ℕ → ℕ → List ℕ → Seen → Step
 lineBit f must line seen = andThen (passed f line seen) (fieldBit f must line)
 
--- how many bits row f has, from the table's number of them and the header
+-- how many bits row f has, from the table's number of them and that of the data bits
 unfoldable pub width : ℕ → ℕ → ℕ → ℕ
-width f count header = cond (eqb f 4) (8 * (header % 16)) count
+width f count wide = cond (eqb f 4) wide count
 
 -- behind the last bit of the DLC: 3, or the header is whole
 unfoldable pub headerRead : Seen → Step
@@ -130,6 +132,7 @@ headerRead seen =
       raw = seen .raw;
       number = 0;
       header = seen .number;
+      wide = 8 * (seen .number % 16);
       field = seen .field;
     }))
 
@@ -143,6 +146,7 @@ fieldRead seen =
       raw = seen .raw;
       number = 0;
       header = seen .header;
+      wide = seen .wide;
       field = seen .number;
     })
 

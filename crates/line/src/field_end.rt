@@ -52,6 +52,7 @@ fn header(seen: Seen) -> Step
     }
     let mut next = seen;
     next.header = next.number;
+    next.wide = 8 * (n as usize);
     next.number = 0;
     Step::Next(next)
 }

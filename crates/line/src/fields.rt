@@ -38,14 +38,9 @@ pub(crate) fn all() -> [Field; 9]
     FIELDS
 }
 
-// How many bits a field has: the data eight for each byte that the DLC says, the header's lowest four bits; any other what the
-// table says.
-pub(crate) fn width(field: usize, bits: u8, header: u64) -> usize
-    ensures { λ r. ⌜ r ≡ width field bits header ⌝ }
+// How many bits a field has: the data as many as the header says, any other what the table says.
+pub(crate) fn width(field: usize, bits: u8, wide: usize) -> usize
+    ensures { λ r. ⌜ r ≡ width field bits wide ⌝ }
 {
-    if field == DATA {
-        8 * ((header % 16) as usize)
-    } else {
-        bits as usize
-    }
+    if field == DATA { wide } else { bits as usize }
 }

@@ -13,8 +13,9 @@ pub(crate) struct Seen {
     pub raw: u64,
     // The bits of the present part, without stuff bits: of the header, of the data field, or of the CRC.
     pub number: u64,
-    // The header and the data field, once they are read.
+    // The header, how many data bits it says, and the data field, once they are read.
     pub header: u64,
+    pub wide: usize,
     pub field: u64,
 }
 
@@ -32,5 +33,6 @@ pub(crate) const NOTHING: Seen = Seen {
     raw: 1,
     number: 0,
     header: 0,
+    wide: 0,
     field: 0,
 };

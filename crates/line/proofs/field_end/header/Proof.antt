@@ -19,9 +19,12 @@ returns-2 : tie.Need-returns-2
 unfolding headerRead
 returns-2 c = simp (ne-eqb _ _ (c .before .before .if1 .left), lt-ltb _ _ (c .before .if2 .taken))
 
+mul-next : tie.Need-mul-next
+mul-next c = search needs
+
 returns-3 : tie.Need-returns-3
 unfolding headerRead
 returns-3 c = simp (ne-eqb _ _ (c .before .if1 .left), le-ltb _ _ (c .if2 .left))
 
 pub header-spec : {M : Type 1} → statement M
-header-spec = tie.close (tie.spec sub-t5 returns sub-t7 returns-2 returns-3)
+header-spec = tie.close (tie.spec sub-t5 returns sub-t7 returns-2 mul-next returns-3)

@@ -1,12 +1,8 @@
 -- `line::fields::width` meets its contract. Assumes nothing.
-use borrow.Author.Needs.{needs}
 use borrow.Author.Tests.{eq-eqb, ne-eqb}
 use Rattle.line.specs.Steps.{width}
 use Rattle.line.proofs.fields.width.Statement.{statement}
 use Rattle.line.proofs.fields.width.Tie as tie
-
-mul-result : tie.Need-mul-result
-mul-result c = search needs
 
 returns : tie.Need-returns
 unfolding width
@@ -17,4 +13,4 @@ unfolding width
 returns-2 c = simp (ne-eqb _ _ (c .if1 .left))
 
 pub width-spec : {M : Type 1} → statement M
-width-spec = tie.close (tie.spec mul-result returns returns-2)
+width-spec = tie.close (tie.spec returns returns-2)
