@@ -29,21 +29,15 @@ pub fn decode_number(n: usize, number: u64, payload: &mut [u8]) -> Answer
     ensures answer { λ r. ⌜ r ≡ decodeAnswer (fieldFrom n number) (length (now (payload .entry))) ⌝ }
     ensures memory { λ r. ⌜ now (payload .exit) ≡ after r (payloadOf (fieldFrom n number)) (now (payload .entry)) ⌝ }
 {
-    if n == 1 {
-        return Answer::Refused(Refusal::FieldLength(0));
-    }
-    if 8 < n {
-        return Answer::Refused(Refusal::FieldLength(0));
-    }
     if n == 0 {
         return Answer::Length(0);
     }
     number_by_size(n, number, payload)
 }
 
-// Decodes a field of 2 to 8 bytes in a number: in each case the size is a number that the compiler knows.
+// Decodes a field in a number: in each case the size is a number that the compiler knows. No field has another length than these.
 fn number_by_size(n: usize, number: u64, payload: &mut [u8]) -> Answer
-    requires { ⌜ (1 < n) × (n ≤ 8) ⌝ }
+    requires { ⌜ 0 < n ⌝ }
     ensures answer { λ r. ⌜ r ≡ decodeAnswer (fieldFrom n number) (length (now (payload .entry))) ⌝ }
     ensures memory { λ r. ⌜ now (payload .exit) ≡ after r (payloadOf (fieldFrom n number)) (now (payload .entry)) ⌝ }
 {
@@ -55,7 +49,8 @@ fn number_by_size(n: usize, number: u64, payload: &mut [u8]) -> Answer
         5 => sized(&list, table::row_of(4), 4, number, payload),
         6 => sized(&list, table::row_of(5), 5, number, payload),
         7 => sized(&list, table::row_of(6), 6, number, payload),
-        _ => sized(&list, table::row_of(7), 7, number, payload),
+        8 => sized(&list, table::row_of(7), 7, number, payload),
+        _ => Answer::Refused(Refusal::FieldLength(0)),
     }
 }
 

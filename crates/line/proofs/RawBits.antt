@@ -6,12 +6,12 @@
 --     told-stuff   a stuff bit
 use mathlib.Core.Path.{_≡_, refl, sym, ap, _∙_}
 use mathlib.Core.Bool.{Bool, true, false, cond}
-use Prim.Native.Nat.{ℕ, zero, suc, _+_, _-_, _*_, _/_, _%_, _^_, _≤_, _<_}
+use Prim.Native.Nat.{ℕ, zero, suc, _+_, _-_, _*_, _/_, _%_, _^_, _<_}
 use native.Mathlib.Omega.{arith}
 use lib.Dec.{eqb, ltb, T}
-use borrow.Author.Tests.{eq-eqb, ne-eqb, eqb-true, eqb-false}
+use borrow.Author.Tests.{ne-eqb, eqb-true}
 use Rattle.bits.specs.declared.Run.{Run}
-use Rattle.bits.specs.Stuffing.{nothingSent, counted}
+use Rattle.bits.specs.Stuffing.{counted}
 use Rattle.bits.proofs.Everywhere.{everywhere, everywhere-at}
 use Rattle.line.specs.Scan.{runWith}
 use Rattle.line.specs.Steps.{dueIn}

@@ -1,7 +1,18 @@
--- `field::decoding::number_by_size` meets its contract: in each case the field has as many bytes as the number says. Assumes nothing.
-use mathlib.Core.Path.{_≡_}
+-- `field::decoding::number_by_size` meets its contract: in each case the field has as many bytes as the number says, and in no other is
+-- there a field. Assumes nothing.
+use mathlib.Core.Path.{_≡_, refl, sym, _∙_}
+use mathlib.Core.Bool.{Bool, true, false}
+use Prim.Native.Nat.{ℕ, _+_, _≤_, _<_}
 use native.Mathlib.Omega.{arith}
+use lib.Dec.{ltb}
+use borrow.Author.Tests.{ltb-true, ltb-false}
 use borrow.Author.Needs.{needs}
+use Rattle.refusals.specs.declared.Answer.the-variants.{Refused}
+use Rattle.refusals.specs.declared.Refusal.the-variants.{FieldLength}
+use Rattle.field.specs.Coded.{fieldFrom}
+use Rattle.field.specs.Decode.{decodeAnswer}
+use Rattle.field.proofs.Coded.{from-length}
+use Rattle.field.proofs.DecodeAnswers.{decode-one, decode-long}
 use Rattle.field.proofs.decoding.number_by_size.Statement.{statement}
 use Rattle.field.proofs.decoding.number_by_size.Tie as tie
 
@@ -106,6 +117,28 @@ returns-7 c =
     let n : c .before .before .before .before .before .before .before .before .before .args .n ≡ 8 = omega arith in
     rw n (c .before .before .sized7 .ensures)
 
+-- a length that no field has
+no-field : (n v room : ℕ) → (n ≤ 8 → n ≡ 1) → Refused (FieldLength 0) ≡ decodeAnswer (fieldFrom n v) room
+no-field n v room one = go (ltb 8 n) refl
+  where
+    go : (t : Bool) → ltb 8 n ≡ t → Refused (FieldLength 0) ≡ decodeAnswer (fieldFrom n v) room
+    go true e = sym (decode-long (fieldFrom n v) room (omega (arith, from-length n v, ltb-true 8 n e)))
+    go false e = sym (decode-one (fieldFrom n v) room (from-length n v ∙ one (ltb-false 8 n e)))
+
+-- which that is, as few cases at a time as can be told apart at once
+three-less : (n k : ℕ) → n ≤ k + 3 → (n ≡ k + 3 → ⊥) → (n ≡ k + 2 → ⊥) → (n ≡ k + 1 → ⊥) → n ≤ k
+three-less n k few a b c = omega arith
+
+returns-8 : tie.Need-returns-8
+returns-8 c =
+    let n = c .before .before .before .args .n in
+    let rest = c .match .rest in
+    let some = c .before .before .before .pre in
+    (no-field n _ _ (λ few. only n some (three-less n 2 (three-less n 5 few (rest .1) (rest .0 .1) (rest .0 .0 .1)) (rest .0 .0 .0 .1) (rest .0 .0 .0 .0 .1) (rest .0 .0 .0 .0 .0 .1)) (rest .0 .0 .0 .0 .0 .0 .1)), refl)
+  where
+    only : (n : ℕ) → 0 < n → n ≤ 2 → (n ≡ 2 → ⊥) → n ≡ 1
+    only n some few a = omega arith
+
 pub number-by-size-spec : {M : Type 1} → statement M
 number-by-size-spec =
     tie.close
@@ -138,4 +171,5 @@ number-by-size-spec =
     same-length-6
     returns-6
     same-length-7
-    returns-7)
+    returns-7
+    returns-8)
