@@ -47,15 +47,15 @@ module _ (line : List ℕ) (f must : ℕ) (seen : Seen) (may : must ≤ 2) where
   module _ (low : bitAt line seen ≤ (must + 1) / 2) where
     pub ending-is : 5 < f → endingBit must (bitAt line seen) seen ≡ fieldBit f must line seen
     unfolding endingBit bit
-    ending-is h = go (ltb bit (must % 2)) refl
+    ending-is h = go (eqb (must + bit) 1) refl
       where
         chosen : behindIn f bit seen ≡ behindEnding seen
         chosen = rw (lt-ltb 5 f h) refl
 
-        go : (t : Bool) → ltb bit (must % 2) ≡ t
+        go : (t : Bool) → eqb (must + bit) 1 ≡ t
             → cond t (Refused (FixedBit (seen .place))) (Next (behindEnding seen)) ≡ fieldBit f must line seen
-        go true d = let less = ltb-true bit (must % 2) d in wrong-bit (omega arith) (omega arith)
-        go false d = let more = ltb-false bit (must % 2) d in ap Next (sym chosen) ∙ right-bit (omega arith) (λ e. omega arith)
+        go true d = let sum = eqb-true (must + bit) 1 d in wrong-bit (omega arith) (omega arith)
+        go false d = let sum = eqb-false (must + bit) 1 d in ap Next (sym chosen) ∙ right-bit (omega arith) (λ e. omega arith)
 
     pub plain-is : 6 * (must % 2) ≤ f → f ≤ 5 → Next (behindBit (bitAt line seen) seen) ≡ fieldBit f must line seen
     unfolding bit

@@ -100,7 +100,7 @@ aboveMost must bit place = cond (eqb (must + bit) 1) (Refused (FixedBit place)) 
 
 -- a bit behind the CRC: a 0 may not stand where a 1 must
 unfoldable pub endingBit : ℕ → ℕ → Seen → Step
-endingBit must bit seen = cond (ltb bit (must % 2)) (Refused (FixedBit (seen .place))) (Next (behindEnding seen))
+endingBit must bit seen = cond (eqb (must + bit) 1) (Refused (FixedBit (seen .place))) (Next (behindEnding seen))
 
 -- a bit of row f, whose bits must be `must`
 unfoldable pub fieldBit : ℕ → ℕ → List ℕ → Seen → Step

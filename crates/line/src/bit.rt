@@ -51,10 +51,10 @@ fn wrong(must: u64, bit: u64, place: usize) -> Step
 
 // Only behind the CRC must a bit be 1. There nothing asks for the bits any more.
 fn ending_bit(must: u64, bit: u64, seen: Seen) -> Step
-    requires { ⌜ seen .place < 2 ^ 63 ⌝ }
+    requires { ⌜ (must ≤ 2) × (bit < 256) × (seen .place < 2 ^ 63) ⌝ }
     ensures { λ r. ⌜ r ≡ endingBit must bit seen ⌝ }
 {
-    if bit < must % 2 {
+    if must + bit == 1 {
         return Step::Refused(Refusal::FixedBit(seen.place));
     }
     let mut next = seen;
