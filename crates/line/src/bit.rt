@@ -1,6 +1,6 @@
 // One bit of a field.
 ghost use mathlib.Core.Path.{_≡_};
-ghost use Prim.Native.Nat.{_+_, _*_, _%_, _≤_, _<_, _^_};
+ghost use Prim.Native.Nat.{_+_, _*_, _/_, _%_, _≤_, _<_, _^_};
 ghost use lib.ListN.{length};
 ghost use Rattle.line.specs.Steps.{aboveMost, behindBit, endingBit, fieldBit, lineBit};
 use crate::fields;
@@ -28,14 +28,21 @@ fn field_bit(line: &[u8], field: usize, must: u8, seen: Seen) -> Step
     let place = seen.place;
     let must = must as u64;
     let bit = line[place] as u64;
-    let most = (must + 1) / 2;
-    if most < bit {
+    if most(must) < bit {
         return wrong(must, bit, place);
     }
     if fields::CRC < field {
         return ending_bit(must, bit, seen);
     }
     Step::Next(behind(bit, seen))
+}
+
+// The most that a bit may be.
+fn most(must: u64) -> u64
+    requires { ⌜ must ≤ 2 ⌝ }
+    ensures { λ r. ⌜ r ≡ (must + 1) / 2 ⌝ }
+{
+    if must == 0 { 0 } else { 1 }
 }
 
 // A byte that is no bit, or a 1 where a 0 must stand.
