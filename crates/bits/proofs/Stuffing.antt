@@ -2,7 +2,7 @@
 --     stuff-starts-run      a worked row: a stuff bit, or a bit of the other value, is the first of the next five
 --     counted-at-most       a bit makes a run one longer, or one long
 --     counted-few           behind at most four, a bit that is not the fifth leaves at most four
---     run-starts, run-stuffed, run-grows    the run that a bit leaves: its own, after five equal bits the stuff bit's, or one bit longer
+--     run-starts, run-grows    the run that a bit leaves where no stuff bit follows: its own, or one bit longer
 --     run-some, run-bit     it has a bit, and that is 0 or 1
 --     no-stuff, one-stuff   the stuff bit that follows a bit is the bit of the run that it starts, where that is another bit
 --     stuffed-length        a row as it is sent has the row's bits and its stuff bits
@@ -47,10 +47,6 @@ counted-few r b h e = le-of-le-suc-ne (le-trans (counted-at-most r b) (omega ari
 pub run-starts : (r : Run) (b : ℕ) → (b ≡ r .bit → ⊥) → runAfter r b ≡ run b 1
 unfolding runAfter
 run-starts r b n = simp (ne-eqb b (r .bit) n)
-
-pub run-stuffed : (r : Run) (b : ℕ) → b ≡ r .bit → r .count ≡ 4 → runAfter r b ≡ run (1 - b) 1
-unfolding runAfter
-run-stuffed r b e f = simp (eq-eqb b (r .bit) e, f)
 
 pub run-grows : (r : Run) (b : ℕ) → b ≡ r .bit → (r .count ≡ 4 → ⊥) → runAfter r b ≡ run b (r .count + 1)
 unfolding runAfter

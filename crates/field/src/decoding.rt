@@ -1,4 +1,4 @@
-// Decoding a field that is one number: first it is read, which writes nothing, then its payload is stored.
+// Decoding a field, in bytes or as one number: first it is read, which writes nothing, then its payload is stored.
 ghost use mathlib.Core.Path.{_≡_};
 ghost use Prim.Native.Nat.{_+_, _*_, _/_, _%_, _^_, _≤_, _<_};
 ghost use lib.ListN.{length};
@@ -35,7 +35,8 @@ pub fn decode_number(n: usize, number: u64, payload: &mut [u8]) -> Answer
     number_by_size(n, number, payload)
 }
 
-// Decodes a field in a number: in each case the size is a number that the compiler knows. No field has another length than these.
+// Decodes a field in a number: in each case the size is a number that the compiler knows. But for the empty one,
+// no field has another length.
 fn number_by_size(n: usize, number: u64, payload: &mut [u8]) -> Answer
     requires { ⌜ 0 < n ⌝ }
     ensures answer { λ r. ⌜ r ≡ decodeAnswer (fieldFrom n number) (length (now (payload .entry))) ⌝ }
@@ -54,7 +55,7 @@ fn number_by_size(n: usize, number: u64, payload: &mut [u8]) -> Answer
     }
 }
 
-// The same of a field in bytes.
+// The same of a field in bytes, whose length is one of these.
 pub(crate) fn by_size(field: &[u8], payload: &mut [u8]) -> Answer
     requires { ⌜ (1 < length (now field)) × (length (now field) ≤ 8) ⌝ }
     ensures answer { λ r. ⌜ r ≡ decodeAnswer (now (field .entry)) (length (now (payload .entry))) ⌝ }

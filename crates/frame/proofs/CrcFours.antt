@@ -1,7 +1,6 @@
 -- The CRC four bits at a time. Assumes nothing.
 --     crc-next-four         four bits behind a row
 --     crc-list-at      at four bits the list holds their CRC
---     crc-next         the next four bits where a loop counts down those that are left
 --     crc-behind       what the code's exclusive ors give, on a register that is moved up by one bit
 --     crc-nothing, crc-leading    the CRC of no bits is 0, and a bit 0 before a row changes nothing
 use mathlib.Core.Path.{_≡_, refl, sym, ap, ap₂, _∙_}
@@ -93,7 +92,7 @@ crc-next-four l v g =
     (sym (fifteen-sum hi v (omega arith) (omega arith)) ∙ ap fifteen both ∙ sym (crc-alone (xor 4 hi v) (xor-below 4 hi v)))
     (xor-nothing up (omega arith))
 
-pub crc-list-at : (v : ℕ) → v < 16 → getD crcList v 0 ≡ crc (bits 4 v) * 2
+crc-list-at : (v : ℕ) → v < 16 → getD crcList v 0 ≡ crc (bits 4 v) * 2
 unfolding crcList
 crc-list-at v h = numbers-at (λ (four : ℕ). crc (bits 4 four) * 2) 0 16 v h
 

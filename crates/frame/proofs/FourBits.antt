@@ -3,8 +3,8 @@
 --     run-fours, drawn-fours, sent-fours    the run that they leave, the stuff bits they draw, and what is sent
 --     sent-row         four bits as they are sent; sent-run the run they leave; sent-drawn whether a stuff bit is among them
 --     sent-below       six bits hold it; sent-length how many bits are sent
---     sent-list-at, byte-list-at    what the lists hold; bytes-are the bytes of such a number
---     start-quiet, start-run    the first three bits of a header draw no stuff bit, and the run that they leave
+--     sent-list-at, byte-list-at    what the lists hold; bytes-are the bytes of such a number (bytesIn)
+--     start-row, start-quiet, start-run    the first three bits of a header go out as they are, and the run that they leave
 --     quiet-run        four bits that draw no stuff bit leave the run that ends them
 use mathlib.Core.Path.{_≡_, sym, ap, ap₂, _∙_, subst}
 use mathlib.Core.Bool.{Bool, not, _&&_, _||_}

@@ -1,7 +1,7 @@
 -- Rows that draw no stuff bit, where the code makes use of them. Assumes nothing.
 --     quiet-sent       such a row goes out as it is
 --     quiet-field      the run that a field leaves is that of its last four bits
---     start-header     a header's stuff bits are those of its last 16 bits, behind the first three
+--     header-drawn, header-run-is, header-sent    of a header's stuff bits, run and bits the first three are told by themselves
 --     check-drawn      the two bits behind the CRC's fourteen draw none; check-sent what goes out
 use mathlib.Core.Path.{_≡_, refl, sym, ap, ap₂, _∙_}
 use mathlib.Core.List.{List, [], _∷_, _++_}

@@ -1,4 +1,5 @@
-// The length of a frame on the wire. No line is built, and no data bit is looked at but the last four: none draws a stuff bit.
+// The length of a frame on the wire. No line is built, and no stuff bit looked for in the data: the last four data bits tell the run
+// behind them.
 ghost use mathlib.Core.Path.{_≡_};
 ghost use Prim.Native.Nat.{_+_, _*_, _≤_};
 ghost use lib.ListN.{length};

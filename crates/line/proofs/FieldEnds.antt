@@ -110,7 +110,7 @@ begun line seen count =
       raw = seen .raw;
       number = seen .number;
       header = seen .header;
-      wide = seen .wide;
+      «data_bits» = seen .«data_bits»;
       field = seen .field;
     }
 
@@ -124,7 +124,7 @@ field-begins line f seen run frame count h e b =
       stop-is = refl;
       at-is = end;
       from = omega (arith, b .at-is);
-      wide-is = b .wide-is;
+      data-bits-is = b .data-bits-is;
       registers = b .registers;
       told = b .told;
       fresh = b .fresh;
@@ -148,13 +148,13 @@ field-begins line f seen run frame count h e b =
 
 -- before the first row
 pub line-begins : (line : List ℕ)
-    → Between line 0 (record { stop = 0; end = 0; place = 0; raw = 1; number = 0; header = 0; wide = 0; field = 0 }) nothingSent []
+    → Between line 0 (record { stop = 0; end = 0; place = 0; raw = 1; number = 0; header = 0; «data_bits» = 0; field = 0 }) nothingSent []
 unfolding scanned bits
 line-begins line =
     record {
       leads = refl;
       at-is = sym (first-start 0);
-      wide-is = refl;
+      data-bits-is = refl;
       registers = in-header (omega arith) refl (lit< tt);
       told = λ h. none refl refl refl;
       fresh = λ e. refl;
@@ -196,7 +196,7 @@ module _ (line : List ℕ) (f : ℕ) (seen : Seen) (run : Run) (left : ℕ) (fra
   other-ends not-dlc not-data not-crc = rw (ne-eqb f 3 not-dlc, ne-eqb f 4 not-data, ne-eqb f 5 not-crc) (record {
     leads = leads right (nothing-here not-dlc not-crc);
     at-is = at ∙ next-start f (bytes seen);
-    wide-is = w .wide-is;
+    data-bits-is = w .data-bits-is;
     registers = passed-on f (seen .header) (seen .field) (seen .number) frame not-dlc not-data not-crc (w .registers);
     told = λ g. w .told (omega (arith, g));
     fresh = w .fresh;
@@ -228,7 +228,7 @@ module _ (line : List ℕ) (f : ℕ) (seen : Seen) (run : Run) (left : ℕ) (fra
                 raw = seen .raw;
                 number = 0;
                 header = n;
-                wide = 8 * (n % 16);
+                «data_bits» = 8 * (n % 16);
                 field = seen .field;
               })))
           go true d = leads _ (length-refused frame (seen .place - 1) nineteen (rw there d))
@@ -239,7 +239,7 @@ module _ (line : List ℕ) (f : ℕ) (seen : Seen) (run : Run) (left : ℕ) (fra
               record {
                 leads = leads right (nothing-shown frame (seen .place - 1) (λ x. rw there d) (λ x. absurd (omega (arith, nineteen))));
                 at-is = nineteen ∙ sym (ap (λ (k : ℕ). startOf k (n % 16)) next ∙ data-start (n % 16));
-                wide-is = refl;
+                data-bits-is = refl;
                 registers =
                     subst (λ (k : ℕ). Registers k n (seen .field) 0 frame) (sym next)
                     (header-put (seen .field) n frame nineteen fine e);
@@ -265,7 +265,7 @@ module _ (line : List ℕ) (f : ℕ) (seen : Seen) (run : Run) (left : ℕ) (fra
           record {
             leads = leads right (nothing-here (λ d. omega arith) (λ d. omega arith));
             at-is = at ∙ next-start f (bytes seen);
-            wide-is = w .wide-is;
+            data-bits-is = w .data-bits-is;
             registers =
                 subst (λ (k : ℕ). Registers k (seen .header) (seen .number) 0 frame) (sym next)
                 (field-put (seen .header) (seen .number) k frame (at ∙ end) fine e);
@@ -300,7 +300,7 @@ module _ (line : List ℕ) (f : ℕ) (seen : Seen) (run : Run) (left : ℕ) (fra
           go true d = rw (sym there ∙ d) (record {
             leads = leads right (nothing-shown frame (seen .place - 1) (λ x. absurd (omega (arith, last))) (λ x. d));
             at-is = at ∙ next-start f (bytes seen);
-            wide-is = w .wide-is;
+            data-bits-is = w .data-bits-is;
             registers = behind (bits k (seen .number)) (omega arith) fine e (rw fifteen at l);
             told = λ g. w .told (omega (arith, g));
             fresh = w .fresh;

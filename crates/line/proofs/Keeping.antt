@@ -54,7 +54,7 @@ pending-none (suc left) frame place h = refl
 pub record Between (line : List ℕ) (f : ℕ) (seen : Seen) (run : Run) (frame : List ℕ) : Type 0 where
   pub leads : scanned line ≡ rest line seen run frame
   pub at-is : length frame ≡ startOf f (bytes seen)
-  pub wide-is : seen .wide ≡ 8 * bytes seen
+  pub data-bits-is : seen .«data_bits» ≡ 8 * bytes seen
   pub registers : Registers f (seen .header) (seen .field) (seen .number) frame
   pub told : f ≤ 5 → Tells (seen .raw) run
   pub fresh : run .count ≡ 0 → length frame ≡ 0
@@ -68,7 +68,7 @@ pub record Within (line : List ℕ) (f : ℕ) (seen : Seen) (run : Run) (left : 
   pub stop-is : seen .stop ≡ least (seen .end) (length line)
   pub at-is : length frame + left ≡ endOf f (bytes seen)
   pub from : startOf f (bytes seen) ≤ length frame
-  pub wide-is : seen .wide ≡ 8 * bytes seen
+  pub data-bits-is : seen .«data_bits» ≡ 8 * bytes seen
   pub registers : Registers f (seen .header) (seen .field) (seen .number) frame
   pub told : f ≤ 5 → Tells (seen .raw) run
   pub fresh : run .count ≡ 0 → length frame ≡ 0
@@ -233,7 +233,7 @@ module _ (line : List ℕ) (f : ℕ) (seen : Seen) (run : Run) (left : ℕ) (fra
             stop-is = refl;
             at-is = w .at-is;
             from = w .from;
-            wide-is = w .wide-is;
+            data-bits-is = w .data-bits-is;
             registers = w .registers;
             told = λ g. told-stuff (seen .raw) b run (omega arith) n (due-five due .1) (w .told g);
             fresh = λ e. absurd (counted-some run b e);
@@ -351,7 +351,7 @@ module _ (line : List ℕ) (f : ℕ) (seen : Seen) (run : Run) (left : ℕ) (fra
               stop-is = w .stop-is;
               at-is = omega (arith, w .at-is, longer frame b);
               from = omega (arith, w .from, longer frame b);
-              wide-is = w .wide-is;
+              data-bits-is = w .data-bits-is;
               registers = registers;
               told = told;
               fresh = λ e. absurd (counted-some run b e);

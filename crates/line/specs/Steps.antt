@@ -54,7 +54,7 @@ behindStuffBit line seen =
       raw = 1 + seen .raw % 2;
       number = seen .number;
       header = seen .header;
-      wide = seen .wide;
+      «data_bits» = seen .«data_bits»;
       field = seen .field;
     }
 
@@ -68,17 +68,18 @@ oneOn raw number seen =
       raw = raw;
       number = number;
       header = seen .header;
-      wide = seen .wide;
+      «data_bits» = seen .«data_bits»;
       field = seen .field;
     }
 
--- what is seen behind a bit of row f; it is kept up to the CRC
+-- what is seen behind a bit; it is kept up to the CRC
 abbrev pub behindBit : ℕ → Seen → Seen
 behindBit bit seen = oneOn (seen .raw * 2 % 2 ^ 64 + bit) (seen .number * 2 + bit) seen
 
 abbrev pub behindEnding : Seen → Seen
 behindEnding seen = oneOn (seen .raw) (seen .number) seen
 
+-- behind a bit of row f
 abbrev pub behindIn : ℕ → ℕ → Seen → Seen
 behindIn f bit seen = cond (ltb 5 f) (behindEnding seen) (behindBit bit seen)
 
@@ -119,7 +120,7 @@ lineBit f must line seen = andThen (passed f line seen) (fieldBit f must line)
 
 -- how many bits row f has, from the table's number of them and that of the data bits
 unfoldable pub width : ℕ → ℕ → ℕ → ℕ
-width f count wide = cond (eqb f 4) wide count
+width f count dataBits = cond (eqb f 4) dataBits count
 
 -- behind the last bit of the DLC: 3, or the header is whole
 unfoldable pub headerRead : Seen → Step
@@ -132,7 +133,7 @@ headerRead seen =
       raw = seen .raw;
       number = 0;
       header = seen .number;
-      wide = 8 * (seen .number % 16);
+      «data_bits» = 8 * (seen .number % 16);
       field = seen .field;
     }))
 
@@ -146,7 +147,7 @@ fieldRead seen =
       raw = seen .raw;
       number = 0;
       header = seen .header;
-      wide = seen .wide;
+      «data_bits» = seen .«data_bits»;
       field = seen .number;
     })
 

@@ -8,7 +8,7 @@ use crate::seen::Step;
 use frame::crc;
 use refusals::Refusal;
 
-// Refused with 11 where the line ends before the field; with 3 behind the DLC and with 12 behind the CRC, at the bit before.
+// Refused with 11 where the line ends within the field; with 3 behind the DLC and with 12 behind the CRC, at the bit before.
 pub(crate) fn judge(field: usize, seen: Seen) -> Step
     requires { ⌜ 0 < seen .end ⌝ }
     ensures { λ r. ⌜ r ≡ fieldEnd field seen ⌝ }
@@ -52,7 +52,7 @@ fn header(seen: Seen) -> Step
     }
     let mut next = seen;
     next.header = next.number;
-    next.wide = 8 * (n as usize);
+    next.data_bits = 8 * (n as usize);
     next.number = 0;
     Step::Next(next)
 }

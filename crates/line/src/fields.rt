@@ -39,8 +39,12 @@ pub(crate) fn all() -> [Field; 9]
 }
 
 // How many bits a field has: the data as many as the header says, any other what the table says.
-pub(crate) fn width(field: usize, bits: u8, wide: usize) -> usize
-    ensures { λ r. ⌜ r ≡ width field bits wide ⌝ }
+pub(crate) fn width(field: usize, bits: u8, data_bits: usize) -> usize
+    ensures { λ r. ⌜ r ≡ width field bits data_bits ⌝ }
 {
-    if field == DATA { wide } else { bits as usize }
+    if field == DATA {
+        data_bits
+    } else {
+        bits as usize
+    }
 }

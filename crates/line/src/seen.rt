@@ -15,7 +15,7 @@ pub(crate) struct Seen {
     pub number: u64,
     // The header, how many data bits it says, and the data field, once they are read.
     pub header: u64,
-    pub wide: usize,
+    pub data_bits: usize,
     pub field: u64,
 }
 
@@ -33,6 +33,6 @@ pub(crate) const NOTHING: Seen = Seen {
     raw: 1,
     number: 0,
     header: 0,
-    wide: 0,
+    data_bits: 0,
     field: 0,
 };

@@ -27,6 +27,7 @@ fn is_due(field: usize, raw: u64) -> bool
     if fields::CRC < field {
         return false;
     }
+    // 00000 and 11111 alone give 1 and 0.
     (raw % 32 + 1) % 32 < 2
 }
 

@@ -1,4 +1,4 @@
--- What the two lists hold at each place. Assumes nothing.
+-- What the word list and the reverse list hold at each place. Assumes nothing.
 --     word-list-at       at x stands the word of byte x
 --     no-word-above      no number above 511 is among the words
 --     reverse-list-at    at nine bits stands their place among the words

@@ -50,8 +50,8 @@ count : (c : tie.After-width Inv-loop μ-loop Inv-line μ-line) →
 count c =
     let l = c .before .before .before .line in
     let table = c .before .before .before .before .all .ensures in
-    c .width .ensures ∙ ap (λ (rows : List Field). width (l .i) (rowAt (l .i) rows .bits) (l .seen .wide)) table
-    ∙ ap (width (l .i) (rowAt (l .i) (rowsOf 0) .bits)) (l .inv .1 .2 .wide-is) ∙ width-is (l .i) (bytes (l .seen))
+    c .width .ensures ∙ ap (λ (rows : List Field). width (l .i) (rowAt (l .i) rows .bits) (l .seen .«data_bits»)) table
+    ∙ ap (width (l .i) (rowAt (l .i) (rowsOf 0) .bits)) (l .inv .1 .2 .data-bits-is) ∙ width-is (l .i) (bytes (l .seen))
 
 add-seen : tie.Need-add-seen Inv-loop μ-loop Inv-line μ-line
 add-seen c =
