@@ -1,5 +1,6 @@
-pub mod Words
 pub mod Places
+pub mod Among
+pub mod Words
 pub mod Lists
 pub mod Symbols
 pub mod ShortList

@@ -5,21 +5,19 @@
 --     something-exactly    nine bits stand for a byte or an escape exactly when they keep the rule
 --     nothing-above        a number above 511 stands for nothing
 --     escapes-are          the escapes are 001000010 and 110111101
-use mathlib.Core.Path.{_≡_, refl, sym, ap, _∙_}
-use mathlib.Core.Bool.{Bool, true, false, cond, _||_, Bool·beq}
+use mathlib.Core.Path.{_≡_, refl, sym, ap, ap₂, _∙_}
+use mathlib.Core.Bool.{Bool, true, false, cond, _||_}
 use Prim.Native.Nat.{ℕ, _+_, _-_, _≤_, _<_}
 use native.Mathlib.Omega.{arith}
-use lib.Dec.{T, eqb, ltb}
+use lib.Dec.{eqb, ltb}
 use lib.ListN.{getD}
-use borrow.Author.Tests.{lt-ltb, eqb-false, ltb-true, ltb-false, ne-eqb}
+use borrow.Author.Tests.{lt-ltb, le-ltb, ltb-true, ltb-false, eqb-true, eqb-false, ne-eqb}
 use Rattle.bits.specs.Rows.{bits}
-use Rattle.bits.specs.Neighbours.{equalNeighbours}
-use Rattle.bits.proofs.Everywhere.{everywhere-at}
 use Rattle.words.specs.Words.{keepsRule, words, wordOf}
 use Rattle.words.specs.Symbols.{placeIn, symbolAt, symbolOf, something, isEscape}
 use Rattle.words.specs.declared.Symbol.the-variants.{Byte, Escape, Nothing}
-use Rattle.words.proofs.Places.{place-found, place-at}
-use Rattle.words.proofs.Words.{words-258, words-rising}
+use Rattle.words.proofs.Places.{place-found, place-at, place-is}
+use Rattle.words.proofs.Words.{words-258, J-number, K-number, words-rising, words-exactly}
 use Rattle.words.proofs.Lists.{no-word-above}
 
 word-place : (x : ℕ) → x < 256 → placeIn words (wordOf x) ≡ x + 1
@@ -53,17 +51,21 @@ word-only nine x e =
     let p = byte-place (placeIn words nine) x e in
     (sym (place-found words nine (omega (arith, words-258))) ∙ ap (λ (k : ℕ). getD words k 0) (p .0), p .1)
 
-beq-eq : (a b : Bool) → T (Bool·beq a b) → a ≡ b
-beq-eq true true t = refl
-beq-eq true false t = absurd t
-beq-eq false true t = absurd t
-beq-eq false false t = refl
+something-at : (p : ℕ) → something (symbolAt p) ≡ ltb p 258
+something-at p = go (eqb p 0) refl (ltb p 257) refl (eqb p 257) refl
+  where
+    go : (a : Bool) → eqb p 0 ≡ a → (b : Bool) → ltb p 257 ≡ b → (c : Bool) → eqb p 257 ≡ c
+        → something (cond a Escape (cond b (Byte (p - 1)) (cond c Escape Nothing))) ≡ ltb p 258
+    go true ea b eb c ec = sym (lt-ltb p 258 (omega (arith, eqb-true p 0 ea)))
+    go false ea true eb c ec = sym (lt-ltb p 258 (omega (arith, ltb-true p 257 eb)))
+    go false ea false eb true ec = sym (lt-ltb p 258 (omega (arith, eqb-true p 257 ec)))
+    go false ea false eb false ec =
+        let other = eqb-false p 257 ec in
+        sym (le-ltb p 258 (omega (arith, ltb-false p 257 eb)))
 
 pub something-exactly : (nine : ℕ) → nine < 512 → something (symbolOf nine) ≡ keepsRule (bits 9 nine)
-unfolding bits equalNeighbours words placeIn symbolOf
-something-exactly nine h =
-    beq-eq (something (symbolOf nine)) (keepsRule (bits 9 nine))
-    (everywhere-at (λ (k : ℕ). Bool·beq (something (symbolOf k)) (keepsRule (bits 9 k))) 512 tt nine h)
+unfolding symbolOf
+something-exactly nine h = something-at (placeIn words nine) ∙ ap (ltb (placeIn words nine)) (sym words-258) ∙ words-exactly nine h
 
 pub nothing-above : (nine : ℕ) → 512 ≤ nine → symbolOf nine ≡ Nothing
 unfolding symbolOf
@@ -73,15 +75,20 @@ nothing-above nine h = ap symbolAt (no-word-above nine h)
 abbrev pub isJK : ℕ → Bool
 isJK nine = eqb nine 66 || eqb nine 445
 
-escapes-below : (nine : ℕ) → nine < 512 → isEscape (symbolOf nine) ≡ isJK nine
-unfolding bits equalNeighbours words placeIn symbolOf
-escapes-below nine h = beq-eq _ _ (everywhere-at (λ (k : ℕ). Bool·beq (isEscape (symbolOf k)) (isJK k)) 512 tt nine h)
+escape-at : (p : ℕ) → isEscape (symbolAt p) ≡ (eqb p 0 || eqb p 257)
+escape-at p = go (eqb p 0) (ltb p 257) refl (eqb p 257) refl
+  where
+    go : (a b : Bool) → ltb p 257 ≡ b → (c : Bool) → eqb p 257 ≡ c
+        → isEscape (cond a Escape (cond b (Byte (p - 1)) (cond c Escape Nothing))) ≡ (a || c)
+    go true b eb c ec = refl
+    go false true eb true ec = let less = ltb-true p 257 eb in absurd (omega (arith, eqb-true p 257 ec))
+    go false true eb false ec = refl
+    go false false eb true ec = refl
+    go false false eb false ec = refl
 
 pub escapes-are : (nine : ℕ) → isEscape (symbolOf nine) ≡ isJK nine
-escapes-are nine = go (ltb nine 512) refl
+unfolding symbolOf
+escapes-are nine = escape-at (placeIn words nine) ∙ ap₂ _||_ (at 0 66 (omega arith) J-number) (at 257 445 (omega arith) K-number)
   where
-    go : (t : Bool) → ltb nine 512 ≡ t → isEscape (symbolOf nine) ≡ isJK nine
-    go true e = escapes-below nine (ltb-true nine 512 e)
-    go false e =
-        let above = ltb-false nine 512 e in
-        rw (nothing-above nine above, ne-eqb nine 66 (λ e. omega arith), ne-eqb nine 445 (λ e. omega arith))
+    at : (i w : ℕ) → i < 258 → getD words i 0 ≡ w → eqb (placeIn words nine) i ≡ eqb nine w
+    at i w h e = place-is words words-rising nine i (omega (arith, words-258)) ∙ ap (eqb nine) e
