@@ -1,5 +1,5 @@
 -- From row to row. Assumes nothing.
---     width-is, bit-is    what the code finds of a row, how many bits it has and which must stand there
+--     row-width, bit-is    what the code finds of a row, how many bits it has and which must stand there
 --     row-bits        and which it may be
 --     line-begins     before the first row
 --     field-begins    into a row
@@ -14,7 +14,7 @@ use native.Mathlib.Omega.{arith}
 use lib.Dec.{eqb, leb, ltb, lit<, T}
 use lib.ListN.{length, getD, drop-of-length-le}
 use lib.Seq.{drop-cons, getD-set-other}
-use borrow.Author.Tests.{eq-eqb, ne-eqb, leb-true, ltb-true, ltb-false, eqb-true, eqb-false}
+use borrow.Author.Tests.{lt-ltb, le-ltb, eq-eqb, ne-eqb, leb-true, ltb-true, ltb-false, eqb-true, eqb-false}
 use mir.Facts.{and-yes}
 use Rattle.bits.specs.Rows.{bits, number}
 use Rattle.bits.specs.declared.Run.{Run}
@@ -26,7 +26,7 @@ use Rattle.frame.specs.Crc.{crc}
 use Rattle.line.specs.Fields.{fixed, free}
 use Rattle.line.specs.Scan.{dlcIn, complete, crcStart, crcRight, Verdict, right, shown, stopped, onward, scan, scanned}
 use Rattle.line.specs.Read.{identifierIn}
-use Rattle.line.specs.Steps.{rowsOf, least, width, headerRead, fieldRead, crcRead, partEnd, fieldEnd, Holds, Reads}
+use Rattle.line.specs.Steps.{rowsOf, least, headerRead, fieldRead, crcRead, partEnd, fieldEnd, Holds, Reads}
 use Rattle.line.specs.declared.fields.Field.{Field}
 use Rattle.line.specs.declared.seen.Seen.{Seen}
 use Rattle.line.specs.declared.seen.Step.{Step}
@@ -35,20 +35,24 @@ use Rattle.line.proofs.Positions.{rowAt, startOf, endOf, end-is, next-s
 use Rattle.line.proofs.Registers.{Fine, Registers, in-header, in-data, in-crc, behind, crc-length, dlc-known, dlc-read, header-put, field-put, crc-there, identifier-there, field-there}
 use Rattle.line.proofs.Verdicts.{bit-too-many, dlc-taken, taken-dlc, length-refused, crc-refused, nothing-shown}
 use Rattle.line.proofs.RawBits.{none}
-use Rattle.line.proofs.Keeping.{bytes, rest, pending, Between, Within, least-not, missing}
+use Rattle.line.proofs.Keeping.{bytes, dataBits, rest, pending, Between, Within, least-not, missing}
 
 -- only the data field hangs on the DLC
 other-field : (f n : ℕ) → (f ≡ 4 → ⊥) → rowAt f (rowsOf n) ≡ rowAt f (rowsOf 0)
 unfolding rowsOf
 other-field f n h = getD-set-other (rowsOf 0) 4 f (free (8 * n)) (fixed 0 0) h
 
-pub width-is : (f n : ℕ) → width f (rowAt f (rowsOf 0) .bits) (8 * n) ≡ rowAt f (rowsOf n) .bits
-unfolding width rowsOf
+width-is : (f n : ℕ) → rowAt f (rowsOf 0) .bits + dataBits f n ≡ rowAt f (rowsOf n) .bits
+unfolding rowsOf
 width-is f n = go (eqb f 4) refl
   where
-    go : (t : Bool) → eqb f 4 ≡ t → cond t (8 * n) (rowAt f (rowsOf 0) .bits) ≡ rowAt f (rowsOf n) .bits
-    go true e = sym (ap (λ (k : ℕ). rowAt k (rowsOf n) .bits) (eqb-true f 4 e))
-    go false e = sym (ap (λ (x : Field). x .bits) (other-field f n (eqb-false f 4 e)))
+    go : (t : Bool) → eqb f 4 ≡ t → rowAt f (rowsOf 0) .bits + cond t (8 * n) 0 ≡ rowAt f (rowsOf n) .bits
+    go true e = let i = eqb-true f 4 e in rw i (omega arith)
+    go false e = let same = ap (λ (x : Field). x .bits) (other-field f n (eqb-false f 4 e)) in omega arith
+
+pub row-width : (fields : List Field) (f n count : ℕ) → fields ≡ rowsOf 0 → count ≡ dataBits f n
+    → rowAt f fields .bits + count ≡ rowAt f (rowsOf n) .bits
+row-width fields f n count e d = rw (e, d) (width-is f n)
 
 pub bit-is : (f n : ℕ) → rowAt f (rowsOf 0) .bit ≡ rowAt f (rowsOf n) .bit
 unfolding rowsOf
@@ -58,25 +62,35 @@ bit-is f n = go (eqb f 4) refl
     go true e = let i = eqb-true f 4 e in rw i refl
     go false e = sym (ap (λ (x : Field). x .bit) (other-field f n (eqb-false f 4 e)))
 
--- the rows as the code asks for them: only behind the CRC must a bit be 1
+-- the rows as the code asks for them: up to the CRC no bit must be 1, behind it none 0
 row-test : ℕ → Bool
-row-test f = leb (rowAt f (rowsOf 0) .bit) 2 && leb (6 * (rowAt f (rowsOf 0) .bit % 2)) f
+row-test f =
+    let bit = rowAt f (rowsOf 0) .bit in
+    leb bit 2 && cond (ltb 5 f) (ltb 0 bit) (eqb (bit % 2) 0)
 
 row-tested : T (everywhere row-test 9)
 unfolding row-test rowsOf
 row-tested = tt
 
-pub row-bits : (f : ℕ) → f < 9 → (rowAt f (rowsOf 0) .bit ≤ 2) × (6 * (rowAt f (rowsOf 0) .bit % 2) ≤ f)
+pub row-bits : (f : ℕ) → f < 9 →
+    let bit = rowAt f (rowsOf 0) .bit in
+    (bit ≤ 2) × (f ≤ 5 → bit % 2 ≡ 0) × (5 < f → 0 < bit)
 unfolding row-test
 row-bits f h =
-    let may = leb (rowAt f (rowsOf 0) .bit) 2 in
-    let must = leb (6 * (rowAt f (rowsOf 0) .bit % 2)) f in
-    let both = and-yes may must (everywhere-at row-test 9 row-tested f h) in
-    (leb-true _ _ (told may (both .0)), leb-true _ _ (told must (both .1)))
+    let bit = rowAt f (rowsOf 0) .bit in
+    let both = and-yes (leb bit 2) (cond (ltb 5 f) (ltb 0 bit) (eqb (bit % 2) 0)) (everywhere-at row-test 9 row-tested f h) in (
+      leb-true _ _ (told (leb bit 2) (both .0)),
+      λ g. eqb-true _ _ (told (eqb (bit % 2) 0) (rw (le-ltb 5 f g) at (both .1))),
+      λ g. ltb-true _ _ (told (ltb 0 bit) (rw (lt-ltb 5 f g) at (both .1))),
+    )
   where
     told : (t : Bool) → T t → t ≡ true
     told true x = refl
     told false x = absurd x
+
+-- only the data row has data bits
+no-data : (f n : ℕ) → (f ≡ 3 → ⊥) → (f ≡ 4 → ⊥) → dataBits f n ≡ dataBits (f + 1) n
+no-data f n not-dlc not-data = rw (ne-eqb f 4 not-data, ne-eqb (f + 1) 4 (λ e. not-dlc (omega arith))) refl
 
 -- behind a row other than DLC and CRC the frame shows nothing
 nothing-behind : (f header field n : ℕ) (frame : List ℕ) (place : ℕ) → f < 9 → (f ≡ 3 → ⊥) → (f ≡ 5 → ⊥)
@@ -102,25 +116,26 @@ nothing-behind f header field n frame place h not-dlc not-crc at registers = go 
 
 -- into a row: its bits are all to come
 abbrev pub begun : List ℕ → Seen → ℕ → Seen
-begun line seen count =
+begun line seen end =
     record {
-      stop = least (seen .place + count) (length line);
-      end = seen .place + count;
+      stop = least end (length line);
+      end = end;
       place = seen .place;
       raw = seen .raw;
       number = seen .number;
       header = seen .header;
-      «data_bits» = seen .«data_bits»;
       field = seen .field;
+      «data_bits» = seen .«data_bits»;
     }
 
-pub field-begins : (line : List ℕ) (f : ℕ) (seen : Seen) (run : Run) (frame : List ℕ) (count : ℕ)
-    → f < 9 → count ≡ rowAt f (rowsOf (bytes seen)) .bits → Between line f seen run frame → Within line f (begun line seen count) run count frame
+pub field-begins : (line : List ℕ) (f : ℕ) (seen : Seen) (run : Run) (frame : List ℕ) (own more : ℕ)
+    → f < 9 → own + more ≡ rowAt f (rowsOf (bytes seen)) .bits → Between line f seen run frame
+    → Within line f (begun line seen (seen .place + own + more)) run (own + more) frame
 unfolding rowsOf
-field-begins line f seen run frame count h e b =
+field-begins line f seen run frame own more h e b =
     record {
       leads = b .leads ∙ ap (λ (v : Verdict). onward v (rest line seen run frame)) (sym (nothing count refl));
-      end-is = refl;
+      end-is = omega arith;
       stop-is = refl;
       at-is = end;
       from = omega (arith, b .at-is);
@@ -132,6 +147,9 @@ field-begins line f seen run frame count h e b =
       behind = b .behind;
     }
   where
+    count : ℕ
+    count = own + more
+
     end : length frame + count ≡ endOf f (bytes seen)
     end = omega (arith, b .at-is, e, end-is f (bytes seen))
 
@@ -148,7 +166,7 @@ field-begins line f seen run frame count h e b =
 
 -- before the first row
 pub line-begins : (line : List ℕ)
-    → Between line 0 (record { stop = 0; end = 0; place = 0; raw = 1; number = 0; header = 0; «data_bits» = 0; field = 0 }) nothingSent []
+    → Between line 0 (record { stop = 0; end = 0; place = 0; raw = 1; number = 0; header = 0; field = 0; «data_bits» = 0 }) nothingSent []
 unfolding scanned bits
 line-begins line =
     record {
@@ -196,7 +214,7 @@ module _ (line : List ℕ) (f : ℕ) (seen : Seen) (run : Run) (left : ℕ) (fra
   other-ends not-dlc not-data not-crc = rw (ne-eqb f 3 not-dlc, ne-eqb f 4 not-data, ne-eqb f 5 not-crc) (record {
     leads = leads right (nothing-here not-dlc not-crc);
     at-is = at ∙ next-start f (bytes seen);
-    data-bits-is = w .data-bits-is;
+    data-bits-is = w .data-bits-is ∙ no-data f _ not-dlc not-data;
     registers = passed-on f (seen .header) (seen .field) (seen .number) frame not-dlc not-data not-crc (w .registers);
     told = λ g. w .told (omega (arith, g));
     fresh = w .fresh;
@@ -228,8 +246,8 @@ module _ (line : List ℕ) (f : ℕ) (seen : Seen) (run : Run) (left : ℕ) (fra
                 raw = seen .raw;
                 number = 0;
                 header = n;
-                «data_bits» = 8 * (n % 16);
                 field = seen .field;
+                «data_bits» = 8 * (n % 16);
               })))
           go true d = leads _ (length-refused frame (seen .place - 1) nineteen (rw there d))
           go false d =
@@ -239,7 +257,7 @@ module _ (line : List ℕ) (f : ℕ) (seen : Seen) (run : Run) (left : ℕ) (fra
               record {
                 leads = leads right (nothing-shown frame (seen .place - 1) (λ x. rw there d) (λ x. absurd (omega (arith, nineteen))));
                 at-is = nineteen ∙ sym (ap (λ (k : ℕ). startOf k (n % 16)) next ∙ data-start (n % 16));
-                data-bits-is = refl;
+                data-bits-is = rw next refl;
                 registers =
                     subst (λ (k : ℕ). Registers k n (seen .field) 0 frame) (sym next)
                     (header-put (seen .field) n frame nineteen fine e);
@@ -265,7 +283,7 @@ module _ (line : List ℕ) (f : ℕ) (seen : Seen) (run : Run) (left : ℕ) (fra
           record {
             leads = leads right (nothing-here (λ d. omega arith) (λ d. omega arith));
             at-is = at ∙ next-start f (bytes seen);
-            data-bits-is = w .data-bits-is;
+            data-bits-is = rw next refl;
             registers =
                 subst (λ (k : ℕ). Registers k (seen .header) (seen .number) 0 frame) (sym next)
                 (field-put (seen .header) (seen .number) k frame (at ∙ end) fine e);
@@ -300,7 +318,7 @@ module _ (line : List ℕ) (f : ℕ) (seen : Seen) (run : Run) (left : ℕ) (fra
           go true d = rw (sym there ∙ d) (record {
             leads = leads right (nothing-shown frame (seen .place - 1) (λ x. absurd (omega (arith, last))) (λ x. d));
             at-is = at ∙ next-start f (bytes seen);
-            data-bits-is = w .data-bits-is;
+            data-bits-is = w .data-bits-is ∙ no-data f _ (λ x. omega arith) (λ x. omega arith);
             registers = behind (bits k (seen .number)) (omega arith) fine e (rw fifteen at l);
             told = λ g. w .told (omega (arith, g));
             fresh = w .fresh;

@@ -18,13 +18,13 @@ use lib.Dec.{eqb, leb, ltb}
 use lib.Pow.{pow-mono}
 use lib.ListN.{length, drop, drop-of-length-le}
 use lib.Seq.{drop-cons}
-use borrow.Author.Tests.{le-ltb, ne-eqb, ltb-true, ltb-false, leb-true, leb-false, eqb-true, eqb-false}
+use borrow.Author.Tests.{lt-ltb, le-ltb, ne-eqb, ltb-true, ltb-false, leb-true, leb-false, eqb-true, eqb-false}
 use Rattle.bits.specs.declared.Run.{Run}
 use Rattle.bits.specs.Stuffing.{counted}
 use Rattle.refusals.specs.declared.Refusal.the-variants.{LineByte, StuffBit, LineLength, FixedBit}
 use Rattle.line.specs.Fields.{fieldsOf, form}
 use Rattle.line.specs.Scan.{dlcIn, complete, crcStart, stuffDue, mustBe, Verdict, right, shown, verdict, runWith, frameWith, Scanned, stopped, onward, scan, scanned}
-use Rattle.line.specs.Steps.{rowsOf, least, bitAt, behindStuffBit, oneOn, behindBit, behindEnding, behindIn, dueIn, stuffBit, passed, fieldBit, andThen, lineBit}
+use Rattle.line.specs.Steps.{rowsOf, least, bitAt, behindStuffBit, oneOn, behindBit, behindEnding, dueIn, stuffBit, passed, judgedBit, fieldBit, endingBit, andThen, lineBit}
 use Rattle.line.specs.declared.seen.Seen.{Seen}
 use Rattle.line.specs.declared.seen.Step.{Step}
 use Rattle.line.specs.declared.seen.Step.the-variants.{Next, Refused}
@@ -36,6 +36,10 @@ use Rattle.line.proofs.Verdicts.{byte-above-1, sixth-bit, stuff-bit, fi
 -- the bytes of the data field, as the code has them
 abbrev pub bytes : Seen → ℕ
 bytes seen = seen .header % 16
+
+-- and its bits, as far as the present row has them
+abbrev pub dataBits : ℕ → ℕ → ℕ
+dataBits f n = cond (eqb f 4) (8 * n) 0
 
 -- what is left of the line
 abbrev pub rest : List ℕ → Seen → Run → List ℕ → Scanned
@@ -54,7 +58,7 @@ pending-none (suc left) frame place h = refl
 pub record Between (line : List ℕ) (f : ℕ) (seen : Seen) (run : Run) (frame : List ℕ) : Type 0 where
   pub leads : scanned line ≡ rest line seen run frame
   pub at-is : length frame ≡ startOf f (bytes seen)
-  pub data-bits-is : seen .«data_bits» ≡ 8 * bytes seen
+  pub data-bits-is : seen .«data_bits» ≡ dataBits f (bytes seen)
   pub registers : Registers f (seen .header) (seen .field) (seen .number) frame
   pub told : f ≤ 5 → Tells (seen .raw) run
   pub fresh : run .count ≡ 0 → length frame ≡ 0
@@ -68,7 +72,7 @@ pub record Within (line : List ℕ) (f : ℕ) (seen : Seen) (run : Run) (left : 
   pub stop-is : seen .stop ≡ least (seen .end) (length line)
   pub at-is : length frame + left ≡ endOf f (bytes seen)
   pub from : startOf f (bytes seen) ≤ length frame
-  pub data-bits-is : seen .«data_bits» ≡ 8 * bytes seen
+  pub data-bits-is : seen .«data_bits» ≡ dataBits f (bytes seen)
   pub registers : Registers f (seen .header) (seen .field) (seen .number) frame
   pub told : f ≤ 5 → Tells (seen .raw) run
   pub fresh : run .count ≡ 0 → length frame ≡ 0
@@ -184,14 +188,13 @@ module _ (line : List ℕ) (f : ℕ) (seen : Seen) (run : Run) (left : ℕ) (fra
   pub end-small : seen .end ≤ length line + 164
   end-small = omega (arith, w .end-is, w .at-is, w .reached, end-within f (bytes seen) h)
 
-  -- a stuff bit is due as the raw bits tell
-  due-told : stuffDue run frame ≡ dueIn f (seen .raw)
-  unfolding dueIn
-  due-told = due-is f (bytes seen) frame known (w .from) to run ∙ go (ltb 5 f) refl
-    where
-      go : (t : Bool) → ltb 5 f ≡ t → dueAt f run ≡ dueIn f (seen .raw)
-      go true e = rw e refl
-      go false e = sym (five-told f (seen .raw) run (w .told (ltb-false 5 f e)))
+  -- up to the CRC a stuff bit is due as the raw bits tell, behind it none is
+  due-told : f ≤ 5 → stuffDue run frame ≡ dueIn (seen .raw)
+  due-told g =
+      due-is f (bytes seen) frame known (w .from) to run ∙ rw (le-ltb 5 f g) (sym (five-told (seen .raw) run (w .told g)))
+
+  none-late : 5 < f → stuffDue run frame ≡ false
+  none-late g = due-is f (bytes seen) frame known (w .from) to run ∙ rw (lt-ltb 5 f g) refl
 
   -- where one is due, the run is five long and the raw bits are looked at
   due-five : stuffDue run frame ≡ true → (f ≤ 5) × (run .count ≡ 5)
@@ -285,14 +288,14 @@ module _ (line : List ℕ) (f : ℕ) (seen : Seen) (run : Run) (left : ℕ) (fra
         byte true d = went _ (byte-above-1 run frame (seen .place) b begun (ltb-true _ _ d))
         byte false d = sixth (ltb-false _ _ d) (eqb b (seen .raw % 2)) refl
 
-    pub pass-goes : Passes line f seen left frame (passed f line seen)
+    pub pass-goes : f ≤ 5 → Passes line f seen left frame (passed line seen)
     unfolding passed
-    pass-goes = go (dueIn f (seen .raw)) refl
+    pass-goes g = go (dueIn (seen .raw)) refl
       where
-        go : (t : Bool) → dueIn f (seen .raw) ≡ t → Passes line f seen left frame (cond t (stuffBit line seen) (Next seen))
-        go true d = stuff-goes (due-told ∙ d)
+        go : (t : Bool) → dueIn (seen .raw) ≡ t → Passes line f seen left frame (cond t (stuffBit line seen) (Next seen))
+        go true d = stuff-goes (due-told g ∙ d)
         go false d =
-            (run, w, due-told ∙ d, rw (w .stop-is) (least-over (seen .end) (length line) (seen .place) (omega (arith, w .end-is)) inside), omega arith)
+            (run, w, due-told g ∙ d, rw (w .stop-is) (least-over (seen .end) (length line) (seen .place) (omega (arith, w .end-is)) inside), omega arith)
 
     -- ---- a bit of the frame
 
@@ -359,42 +362,38 @@ module _ (line : List ℕ) (f : ℕ) (seen : Seen) (run : Run) (left : ℕ) (fra
               behind = omega (arith, w .behind, longer frame b);
             }
 
-        within-bit : (mustBe frame ≡ 1 - b → ⊥) → Within line f (behindIn f b seen) (runWith run b) (left - 1) more
-        within-bit n = go (ltb 5 f) refl
-          where
-            go : (t : Bool) → ltb 5 f ≡ t
-                → Within line f (cond t (behindEnding seen) (behindBit b seen)) (runWith run b) (left - 1) more
-            go true d = let late = ltb-true 5 f d in within-on _ _ n (added-late late) (λ g. absurd (omega arith))
-            go false d = within-on _ _ n (added (ltb-false 5 f d)) (told-on n)
-
-        -- one place on, whatever is kept
-        on : seen .place < behindIn f b seen .place
-        on = go (ltb 5 f)
-          where
-            go : (t : Bool) → seen .place < cond t (behindEnding seen) (behindBit b seen) .place
-            go true = omega arith
-            go false = omega arith
-
-      field-goes : (must : ℕ) → mustBe frame ≡ must → Goes line f seen (fieldBit f must line seen)
-      unfolding fieldBit b
-      field-goes must m = byte (ltb 1 b) refl
+      -- the bit that must stand, or the line is refused; what is kept of it tells the run and the frame's bits
+      judged-goes : (must raw number : ℕ) → mustBe frame ≡ must
+          → (b ≤ 1 → (mustBe frame ≡ 1 - b → ⊥) → Registers f (seen .header) (seen .field) number more × (f ≤ 5 → Tells raw (runWith run b)))
+          → Goes line f seen (judgedBit must line seen (oneOn raw number seen))
+      unfolding judgedBit b
+      judged-goes must raw number m kept = byte (ltb 1 b) refl
         where
           fixed-goes : b ≤ 1 → (t : Bool) → eqb must (1 - b) ≡ t
-              → Goes line f seen (cond t (Refused (FixedBit (seen .place))) (Next (behindIn f b seen)))
+              → Goes line f seen (cond t (Refused (FixedBit (seen .place))) (Next (oneOn raw number seen)))
           fixed-goes bit true d = went _ (fixed-bit run frame (seen .place) b begun bit due (m ∙ eqb-true _ _ d))
-          fixed-goes bit false d = (runWith run b, left - 1, more, within-bit bit (λ e. eqb-false _ _ d (sym m ∙ e)), inside, on bit)
+          fixed-goes bit false d =
+              let n : mustBe frame ≡ 1 - b → ⊥ = λ e. eqb-false _ _ d (sym m ∙ e) in
+              (runWith run b, left - 1, more, within-on bit raw number n (kept bit n .0) (kept bit n .1), inside, omega arith)
 
           byte : (t : Bool) → ltb 1 b ≡ t
               → Goes line f seen
-              (cond t (Refused (LineByte (seen .place))) (cond (eqb must (1 - b)) (Refused (FixedBit (seen .place))) (Next (behindIn f b seen))))
+              (cond t (Refused (LineByte (seen .place))) (cond (eqb must (1 - b)) (Refused (FixedBit (seen .place))) (Next (oneOn raw number seen))))
           byte true d = went _ (byte-above-1 run frame (seen .place) b begun (ltb-true _ _ d))
           byte false d = fixed-goes (ltb-false _ _ d) (eqb must (1 - b)) refl
+
+      field-goes : (must : ℕ) → mustBe frame ≡ must → f ≤ 5 → Goes line f seen (fieldBit must line seen)
+      unfolding b
+      field-goes must m g = judged-goes must _ _ m (λ bit n. (added bit g, told-on bit n))
+
+    ending-goes : (must : ℕ) → mustBe frame ≡ must → 5 < f → Goes line f seen (endingBit must line seen)
+    ending-goes must m g = judged-goes (none-late g) must _ _ m (λ bit n. (added-late (none-late g) bit g, λ few. absurd (omega arith)))
 
 -- a bit of the line, where the row's bits must be this one
 pub bit-goes : (line : List ℕ) (f : ℕ) (seen : Seen) (run : Run) (left : ℕ) (frame : List ℕ) → f < 9 → Within line f seen run left frame
     → seen .place < seen .stop → (must : ℕ) → mustBe frame ≡ must → Goes line f seen (lineBit f must line seen)
 unfolding lineBit
-bit-goes line f seen run left frame h w before must m = go (passed f line seen) (pass-goes line f seen run left frame h w some (both .1))
+bit-goes line f seen run left frame h w before must m = late (ltb 5 f) refl
   where
     both : (seen .place < seen .end) × (seen .place < length line)
     both = least-both (seen .end) (length line) (seen .place) (rw (w .stop-is) at before)
@@ -406,9 +405,15 @@ bit-goes line f seen run left frame h w before must m = go (passed f line seen) 
     further next (Next last) l i g = (g .0, g .1, g .2, g .3, i, omega (arith, g .5))
     further next (Refused refusal) l i g = g
 
-    go : (s : Step) → Passes line f seen left frame s → Goes line f seen (andThen s (fieldBit f must line))
-    go (Next next) (r, v, due, l, k) =
+    go : f ≤ 5 → (s : Step) → Passes line f seen left frame s → Goes line f seen (andThen s (fieldBit must line))
+    go few (Next next) (r, v, due, l, k) =
         let inner = least-both (next .end) (length line) (next .place) (rw (v .stop-is) at l) in
-        further next (fieldBit f must line next) k (both .1)
-        (field-goes line f next r left frame h v some (inner .1) due must m)
-    go (Refused refusal) e = e
+        further next (fieldBit must line next) k (both .1)
+        (field-goes line f next r left frame h v some (inner .1) due must m few)
+    go few (Refused refusal) e = e
+
+    late : (t : Bool) → ltb 5 f ≡ t → Goes line f seen (cond t (endingBit must line seen) (andThen (passed line seen) (fieldBit must line)))
+    late true e = ending-goes line f seen run left frame h w some (both .1) must m (ltb-true 5 f e)
+    late false e =
+        let few = ltb-false 5 f e in
+        go few (passed line seen) (pass-goes line f seen run left frame h w some (both .1) few)

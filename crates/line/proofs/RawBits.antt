@@ -15,7 +15,6 @@ use Rattle.bits.specs.Stuffing.{counted}
 use Rattle.bits.proofs.Everywhere.{everywhere, everywhere-at}
 use Rattle.line.specs.Scan.{runWith}
 use Rattle.line.specs.Steps.{dueIn}
-use Rattle.line.proofs.Positions.{dueAt}
 
 -- how many of the k lowest bits of t, from the lowest on, are b
 abbrev trailing : ℕ → ℕ → ℕ → ℕ
@@ -76,10 +75,10 @@ more-is b t l h e =
 
 -- ---- of any raw bits
 
-pub five-told : (f raw : ℕ) (run : Run) → Tells raw run → dueIn f raw ≡ dueAt f run
+pub five-told : (raw : ℕ) (run : Run) → Tells raw run → dueIn raw ≡ eqb (run .count) 5
 unfolding dueIn
-five-told f raw run (none e b n) = rw (e, n) refl
-five-told f raw run (some b n) = rw n (ap (cond (ltb 5 f) false) (five-is (raw % 32) (omega arith)))
+five-told raw run (none e b n) = rw (e, n) refl
+five-told raw run (some b n) = rw n (five-is (raw % 32) (omega arith))
 
 pub bit-told : (raw : ℕ) (run : Run) → Tells raw run → run .count ≡ 5 → run .bit ≡ raw % 2
 bit-told raw run (none e b n) h = absurd (omega arith)

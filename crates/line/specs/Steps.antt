@@ -1,7 +1,7 @@
 -- Reading as the code does it, by registers and row by row; no public contract cites it. Assumes nothing.
 use Prim.Native.Nat.{ℕ, _+_, _-_, _*_, _/_, _%_, _^_}
 use mathlib.Core.Path.{_≡_}
-use mathlib.Core.Bool.{Bool, false, cond, _||_}
+use mathlib.Core.Bool.{Bool, cond, _||_}
 use mathlib.Core.List.{List, [], _∷_, _++_}
 use lib.Dec.{eqb, leb, ltb}
 use lib.ListN.{length, getD}
@@ -40,9 +40,9 @@ least a b = cond (ltb a b) a b
 abbrev pub bitAt : List ℕ → Seen → ℕ
 bitAt line seen = getD line (seen .place) 0
 
--- five equal bits end the raw bits, and a stuff bit is due before the next bit of row f: up to the CRC
-unfoldable pub dueIn : ℕ → ℕ → Bool
-dueIn f raw = cond (ltb 5 f) false (ltb ((raw % 32 + 1) % 32) 2)
+-- five equal bits end the raw bits: up to the CRC a stuff bit is due
+unfoldable pub dueIn : ℕ → Bool
+dueIn raw = ltb ((raw % 32 + 1) % 32) 2
 
 -- what is seen behind a stuff bit
 abbrev pub behindStuffBit : List ℕ → Seen → Seen
@@ -54,8 +54,8 @@ behindStuffBit line seen =
       raw = 1 + seen .raw % 2;
       number = seen .number;
       header = seen .header;
-      «data_bits» = seen .«data_bits»;
       field = seen .field;
+      «data_bits» = seen .«data_bits»;
     }
 
 -- one place on, with these raw bits and this number
@@ -68,8 +68,8 @@ oneOn raw number seen =
       raw = raw;
       number = number;
       header = seen .header;
-      «data_bits» = seen .«data_bits»;
       field = seen .field;
+      «data_bits» = seen .«data_bits»;
     }
 
 -- what is seen behind a bit; it is kept up to the CRC
@@ -79,10 +79,6 @@ behindBit bit seen = oneOn (seen .raw * 2 % 2 ^ 64 + bit) (seen .number * 2 + bi
 abbrev pub behindEnding : Seen → Seen
 behindEnding seen = oneOn (seen .raw) (seen .number) seen
 
--- behind a bit of row f
-abbrev pub behindIn : ℕ → ℕ → Seen → Seen
-behindIn f bit seen = cond (ltb 5 f) (behindEnding seen) (behindBit bit seen)
-
 -- a bit where a stuff bit is due
 unfoldable pub stuffBit : List ℕ → Seen → Step
 stuffBit line seen =
@@ -91,24 +87,27 @@ stuffBit line seen =
     (cond (leb (length line) (seen .place + 1)) (Refused (LineLength (seen .place + 1)))
     (Next (behindStuffBit line seen))))
 
--- what is seen before the next bit of row f: behind the stuff bit, where one is due
-unfoldable pub passed : ℕ → List ℕ → Seen → Step
-passed f line seen = cond (dueIn f (seen .raw)) (stuffBit line seen) (Next seen)
+-- what is seen before the next bit: behind the stuff bit, where one is due
+unfoldable pub passed : List ℕ → Seen → Step
+passed line seen = cond (dueIn (seen .raw)) (stuffBit line seen) (Next seen)
 
--- a byte above what a row allows: a 1 where a 0 must stand, or no bit
-unfoldable pub aboveMost : ℕ → ℕ → ℕ → Step
-aboveMost must bit place = cond (eqb (must + bit) 1) (Refused (FixedBit place)) (Refused (LineByte place))
+-- a bit that is refused: one where the other must stand, or a byte that is none
+unfoldable pub refusedBit : ℕ → ℕ → ℕ → Step
+refusedBit must bit place = cond (eqb (must + bit) 1) (Refused (FixedBit place)) (Refused (LineByte place))
 
--- a bit behind the CRC: a 0 may not stand where a 1 must
-unfoldable pub endingBit : ℕ → ℕ → Seen → Step
-endingBit must bit seen = cond (eqb (must + bit) 1) (Refused (FixedBit (seen .place))) (Next (behindEnding seen))
-
--- a bit of row f, whose bits must be `must`
-unfoldable pub fieldBit : ℕ → ℕ → List ℕ → Seen → Step
-fieldBit f must line seen =
+-- a bit where `must` must stand, and what is seen behind it if it is right
+unfoldable pub judgedBit : ℕ → List ℕ → Seen → Seen → Step
+judgedBit must line seen next =
     cond (ltb 1 (bitAt line seen)) (Refused (LineByte (seen .place)))
     (cond (eqb must (1 - bitAt line seen)) (Refused (FixedBit (seen .place)))
-    (Next (behindIn f (bitAt line seen) seen)))
+    (Next next))
+
+-- a bit up to the CRC, and one behind it
+abbrev pub fieldBit : ℕ → List ℕ → Seen → Step
+fieldBit must line seen = judgedBit must line seen (behindBit (bitAt line seen) seen)
+
+abbrev pub endingBit : ℕ → List ℕ → Seen → Step
+endingBit must line seen = judgedBit must line seen (behindEnding seen)
 
 abbrev pub andThen : Step → (Seen → Step) → Step
 andThen (Next seen) next = next seen
@@ -116,11 +115,7 @@ andThen (Refused refusal) next = Refused refusal
 
 -- the next bit of row f, and the stuff bit before it
 unfoldable pub lineBit : ℕ → ℕ → List ℕ → Seen → Step
-lineBit f must line seen = andThen (passed f line seen) (fieldBit f must line)
-
--- how many bits row f has, from the table's number of them and that of the data bits
-unfoldable pub width : ℕ → ℕ → ℕ → ℕ
-width f count dataBits = cond (eqb f 4) dataBits count
+lineBit f must line seen = cond (ltb 5 f) (endingBit must line seen) (andThen (passed line seen) (fieldBit must line))
 
 -- behind the last bit of the DLC: 3, or the header is whole
 unfoldable pub headerRead : Seen → Step
@@ -133,8 +128,8 @@ headerRead seen =
       raw = seen .raw;
       number = 0;
       header = seen .number;
-      «data_bits» = 8 * (seen .number % 16);
       field = seen .field;
+      «data_bits» = 8 * (seen .number % 16);
     }))
 
 -- behind the last data bit the data field is whole
@@ -147,8 +142,8 @@ fieldRead seen =
       raw = seen .raw;
       number = 0;
       header = seen .header;
-      «data_bits» = seen .«data_bits»;
       field = seen .number;
+      «data_bits» = 0;
     })
 
 -- behind the last bit of the CRC: 12, or it is right

@@ -62,6 +62,7 @@ fn data(seen: Seen) -> Step
 {
     let mut next = seen;
     next.field = next.number;
+    next.data_bits = 0;
     next.number = 0;
     Step::Next(next)
 }

@@ -1,6 +1,6 @@
 // The fields of a frame, as rows of data.
 ghost use mathlib.Core.Path.{_≡_};
-ghost use Rattle.line.specs.Steps.{rowsOf, width};
+ghost use Rattle.line.specs.Steps.{rowsOf};
 
 // A field of a frame; or neighbours that must be the same bit.
 pub(crate) struct Field {
@@ -36,15 +36,4 @@ pub(crate) fn all() -> [Field; 9]
     ensures { λ r. ⌜ r ≡ rowsOf 0 ⌝ }
 {
     FIELDS
-}
-
-// How many bits a field has: the data as many as the header says, any other what the table says.
-pub(crate) fn width(field: usize, bits: u8, data_bits: usize) -> usize
-    ensures { λ r. ⌜ r ≡ width field bits data_bits ⌝ }
-{
-    if field == DATA {
-        data_bits
-    } else {
-        bits as usize
-    }
 }

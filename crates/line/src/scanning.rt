@@ -25,7 +25,7 @@ pub(crate) fn scan(line: &[u8]) -> Step
             break 'line Step::Next(seen);
         }
         let field = fields[i];
-        seen.end = seen.place + fields::width(i, field.bits, seen.data_bits);
+        seen.end = seen.place + field.bits as usize + seen.data_bits;
         seen.stop = places::least(seen.end, line.len());
         while seen.place < seen.stop {
             match bit::next(line, i, field.bit, seen) {

@@ -13,10 +13,11 @@ pub(crate) struct Seen {
     pub raw: u64,
     // The bits of the present part, without stuff bits: of the header, of the data field, or of the CRC.
     pub number: u64,
-    // The header, how many data bits it says, and the data field, once they are read.
+    // The header and the data field, once they are read.
     pub header: u64,
-    pub data_bits: usize,
     pub field: u64,
+    // How many bits the data field has, from its DLC to its end; 0 before and behind.
+    pub data_bits: usize,
 }
 
 // What is seen behind a bit, a field or the whole line; or the first problem met.
@@ -33,6 +34,6 @@ pub(crate) const NOTHING: Seen = Seen {
     raw: 1,
     number: 0,
     header: 0,
-    data_bits: 0,
     field: 0,
+    data_bits: 0,
 };

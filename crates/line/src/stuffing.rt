@@ -3,30 +3,26 @@ ghost use mathlib.Core.Path.{_≡_};
 ghost use Prim.Native.Nat.{_+_, _<_, _^_};
 ghost use lib.ListN.{length};
 ghost use Rattle.line.specs.Steps.{dueIn, stuffBit, passed};
-use crate::fields;
 use crate::places;
 use crate::seen::Seen;
 use crate::seen::Step;
 use refusals::Refusal;
 
-// What is seen behind the stuff bit that is due before the next bit of a field; where none is due, what was seen.
-pub(crate) fn pass(line: &[u8], field: usize, seen: Seen) -> Step
+// What is seen behind the stuff bit that is due before the next bit; where none is due, what was seen.
+pub(crate) fn pass(line: &[u8], seen: Seen) -> Step
     requires { ⌜ (seen .place < length (now line)) × (seen .end < 2 ^ 63 + 256) ⌝ }
-    ensures { λ r. ⌜ r ≡ passed field (now (line .entry)) seen ⌝ }
+    ensures { λ r. ⌜ r ≡ passed (now (line .entry)) seen ⌝ }
 {
-    if is_due(field, seen.raw) {
+    if is_due(seen.raw) {
         return stuff_bit(line, seen);
     }
     Step::Next(seen)
 }
 
-// Whether the last five bits are equal; behind the last CRC bit no stuff bit is due.
-fn is_due(field: usize, raw: u64) -> bool
-    ensures { λ r. ⌜ r ≡ dueIn field raw ⌝ }
+// Whether the last five bits are equal.
+fn is_due(raw: u64) -> bool
+    ensures { λ r. ⌜ r ≡ dueIn raw ⌝ }
 {
-    if fields::CRC < field {
-        return false;
-    }
     // 00000 and 11111 alone give 1 and 0.
     (raw % 32 + 1) % 32 < 2
 }

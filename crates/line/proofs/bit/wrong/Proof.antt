@@ -1,7 +1,7 @@
 -- `line::bit::wrong` meets its contract. Assumes nothing.
 use borrow.Author.Needs.{needs}
 use borrow.Author.Tests.{eq-eqb, ne-eqb}
-use Rattle.line.specs.Steps.{aboveMost}
+use Rattle.line.specs.Steps.{refusedBit}
 use Rattle.line.proofs.bit.wrong.Statement.{statement}
 use Rattle.line.proofs.bit.wrong.Tie as tie
 
@@ -9,11 +9,11 @@ add-if1 : tie.Need-add-if1
 add-if1 c = search needs
 
 returns : tie.Need-returns
-unfolding aboveMost
+unfolding refusedBit
 returns c = simp (eq-eqb _ _ (c .if1 .taken))
 
 returns-2 : tie.Need-returns-2
-unfolding aboveMost
+unfolding refusedBit
 returns-2 c = simp (ne-eqb _ _ (c .if1 .left))
 
 pub wrong-spec : {M : Type 1} → statement M

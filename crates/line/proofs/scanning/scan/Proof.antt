@@ -1,17 +1,17 @@
 -- `line::scanning::scan` meets its contract: what is left of the line leads to the answer of the whole. Assumes nothing.
 use mathlib.Core.Path.{_≡_, sym, ap, _∙_, subst}
 use mathlib.Core.List.{List, []}
-use Prim.Native.Nat.{ℕ, _-_, _≤_, _<_}
+use Prim.Native.Nat.{ℕ, _+_, _-_, _≤_, _<_}
 use native.Mathlib.Omega.{arith}
 use lib.ListN.{length}
 use borrow.Author.Needs.{needs}
 use Rattle.bits.specs.declared.Run.{Run}
 use Rattle.bits.specs.Stuffing.{nothingSent}
-use Rattle.line.specs.Steps.{rowsOf, width}
+use Rattle.line.specs.Steps.{rowsOf}
 use Rattle.line.specs.declared.fields.Field.{Field}
 use Rattle.line.proofs.Positions.{rowAt, end-is, end-some, end-within}
 use Rattle.line.proofs.Keeping.{bytes, Between, Within, least-both, Goes, must-stand, number-small, end-small, bit-goes}
-use Rattle.line.proofs.FieldEnds.{Ends, width-is, bit-is, row-bits, line-begins, field-begins, field-ends, line-longer, line-read}
+use Rattle.line.proofs.FieldEnds.{Ends, row-width, bit-is, row-bits, line-begins, field-begins, field-ends, line-longer, line-read}
 use Rattle.line.proofs.scanning.scan.Statement.{statement}
 use Rattle.line.proofs.scanning.scan.Tie as tie
 
@@ -40,44 +40,48 @@ mul-field c = search needs
 array-copy-out-field : tie.Need-array-copy-out-field Inv-loop μ-loop Inv-line μ-line
 array-copy-out-field c = search needs
 
-width-requires : tie.Need-width-requires Inv-loop μ-loop Inv-line μ-line
-width-requires c κs = search needs
-
--- how many bits the row has
-count : (c : tie.After-width Inv-loop μ-loop Inv-line μ-line) →
-    let l = c .before .before .before .line in
-    c .width .result ≡ rowAt (l .i) (rowsOf (bytes (l .seen))) .bits
-count c =
-    let l = c .before .before .before .line in
-    let table = c .before .before .before .before .all .ensures in
-    c .width .ensures ∙ ap (λ (rows : List Field). width (l .i) (rowAt (l .i) rows .bits) (l .seen .«data_bits»)) table
-    ∙ ap (width (l .i) (rowAt (l .i) (rowsOf 0) .bits)) (l .inv .1 .2 .data-bits-is) ∙ width-is (l .i) (bytes (l .seen))
+cast-seen : tie.Need-cast-seen Inv-loop μ-loop Inv-line μ-line
+cast-seen c = search needs
 
 add-seen : tie.Need-add-seen Inv-loop μ-loop Inv-line μ-line
 add-seen c =
     let l = c .before .before .before .before .line in
     let i = l .i in
     let n = bytes (l .seen) in
-    let start = c .before .before .before .before .before .before .before in
+    let start = c .before .before .before .before .before in
     let h : i < 9 = omega (arith, l .inv .0, c .before .before .before .if1 .left) in
-    omega (arith, count (c .before), end-is i n, end-within i n h, l .inv .1 .2 .reached, start .good)
+    let width = row-width _ i n (l .seen .«data_bits») (start .all .ensures) (l .inv .1 .2 .data-bits-is) in
+    omega (arith, width, end-is i n, end-within i n h, l .inv .1 .2 .reached, start .before .before .good)
+
+add-seen-2 : tie.Need-add-seen-2 Inv-loop μ-loop Inv-line μ-line
+add-seen-2 c =
+    let l = c .before .before .before .before .before .line in
+    let i = l .i in
+    let n = bytes (l .seen) in
+    let start = c .before .before .before .before .before .before in
+    let h : i < 9 = omega (arith, l .inv .0, c .before .before .before .before .if1 .left) in
+    let width = row-width _ i n (l .seen .«data_bits») (start .all .ensures) (l .inv .1 .2 .data-bits-is) in
+    omega (arith, width, end-is i n, end-within i n h, l .inv .1 .2 .reached, start .before .before .good)
 
 least-requires : tie.Need-least-requires Inv-loop μ-loop Inv-line μ-line
 least-requires c κs = tt
 
 loop-holds : tie.Need-loop-holds Inv-loop μ-loop Inv-line μ-line
 loop-holds c =
-    let l = c .before .before .before .before .before .line in
+    let l = c .before .before .before .before .before .before .line in
     let i = l .i in
-    let h : i < 9 = omega (arith, l .inv .0, c .before .before .before .before .if1 .left) in
-    let within = field-begins _ i (l .seen) (l .inv .1 .1) (l .inv .1 .0) _ h (count (c .before .before)) (l .inv .1 .2) in
-    (h, (l .inv .1 .0, l .inv .1 .1, c .before .before .width .result, rw (c .least .ensures) within))
+    let h : i < 9 = omega (arith, l .inv .0, c .before .before .before .before .before .if1 .left) in
+    let table = c .before .before .before .before .before .before .before .all in
+    let width = row-width _ i (bytes (l .seen)) (l .seen .«data_bits») (table .ensures) (l .inv .1 .2 .data-bits-is) in
+    let within = field-begins _ i (l .seen) (l .inv .1 .1) (l .inv .1 .0) _ _ h width (l .inv .1 .2) in
+    let left = rowAt i (table .result) .bits + l .seen .«data_bits» in
+    (h, (l .inv .1 .0, l .inv .1 .1, left, rw (c .least .ensures) within))
 
 -- in the inner loop: the bit that must stand, and room for one more
 next-requires : tie.Need-next-requires Inv-loop μ-loop Inv-line μ-line
 next-requires c κs =
     let l = c .before .before .loop in
-    let start = c .before .before .before .before .before .before .before .before in
+    let start = c .before .before .before .before .before .before .before .before .before in
     let i = start .line .i in
     let w = l .inv .1 .3 in
     let both = least-both _ _ _ (rw (w .stop-is) at (c .if3 .taken)) in
@@ -90,17 +94,18 @@ next-requires c κs =
       number-small _ i (l .seen) (l .inv .1 .1) (l .inv .1 .2) (l .inv .1 .0) (l .inv .0) w some,
       rw table (row .0),
       rw table (row .1),
+      rw table (row .2),
     )
 
 -- what the bit leads to
 goes : (c : tie.After-next Inv-loop μ-loop Inv-line μ-line) →
     let at = c .before .before .before in
-    let start = at .before .before .before .before .before .before in
+    let start = at .before .before .before .before .before .before .before in
     Goes (start .before .before .before .args .line .now) (start .line .i) (at .loop .seen) (c .next .result)
 goes c =
     let at = c .before .before .before in
     let l = at .loop in
-    let start = at .before .before .before .before .before .before in
+    let start = at .before .before .before .before .before .before .before in
     let i = start .line .i in
     let line = start .before .before .before .args .line .now in
     let w = l .inv .1 .3 in
@@ -133,20 +138,20 @@ enum-known-refusal c = search needs
 judge-requires : tie.Need-judge-requires Inv-loop μ-loop Inv-line μ-line
 judge-requires c κs =
     let l = c .before .before .loop in
-    let i = c .before .before .before .before .before .before .before .before .line .i in
+    let i = c .before .before .before .before .before .before .before .before .before .line .i in
     let w = l .inv .1 .3 in
     omega (arith, w .behind, w .at-is, w .end-is, end-some i (bytes (l .seen)))
 
 -- what the end of the row leads to
 ends : (c : tie.After-judge Inv-loop μ-loop Inv-line μ-line) →
     let at = c .before .before .before in
-    let start = at .before .before .before .before .before .before in
+    let start = at .before .before .before .before .before .before .before in
     let inv = at .loop .inv .1 in
     Ends (start .before .before .before .args .line .now) (start .line .i) (inv .1) (inv .0) (c .judge .result)
 ends c =
     let at = c .before .before .before in
     let l = at .loop in
-    let i = at .before .before .before .before .before .before .line .i in
+    let i = at .before .before .before .before .before .before .before .line .i in
     subst (Ends _ _ _ _) (sym (c .judge .ensures))
     (field-ends _ i (l .seen) (l .inv .1 .1) (l .inv .1 .2) (l .inv .1 .0) (l .inv .0) (l .inv .1 .3) (c .before .if3 .left))
 
@@ -196,8 +201,9 @@ scan-spec =
     line-holds
     mul-field
     array-copy-out-field
-    width-requires
+    cast-seen
     add-seen
+    add-seen-2
     least-requires
     loop-holds
     next-requires
