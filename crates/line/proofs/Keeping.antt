@@ -1,8 +1,8 @@
 -- While a line is read, what is left of it leads where the whole leads, and the registers hold the frame's bits. Assumes nothing.
 --     Between, Within    before a row, and in it, with so many bits to come; behind its last bit what the frame shows is still to be looked at
---     least-both, least-over, least-not    places before the one that comes first, and behind it
---     Passes, pass-goes  a stuff bit, where one is due: it is right, or the line is refused as the definition says
---     Goes, bit-goes     and so a bit of the frame, with the stuff bit before it
+--     dataBits           the data bits that a row has
+--     least-both, least-not    places before the one that comes first, and behind it
+--     Goes, bit-goes     a bit of the frame, with the stuff bit before it: both are right, or the line is refused as the definition says
 --     must-stand         the bit that must stand next
 --     number-small, end-small    the number of a part and the place of the row's end leave room for one more bit
 --     missing            the line ends in the row
@@ -50,7 +50,7 @@ abbrev pub pending : ℕ → List ℕ → ℕ → Verdict
 pending zero frame place = shown frame (place - 1)
 pending (suc left) frame place = right
 
-pub pending-none : (left : ℕ) (frame : List ℕ) (place : ℕ) → 0 < left → pending left frame place ≡ right
+pending-none : (left : ℕ) (frame : List ℕ) (place : ℕ) → 0 < left → pending left frame place ≡ right
 pending-none zero frame place h = absurd (omega arith)
 pending-none (suc left) frame place h = refl
 
@@ -88,7 +88,7 @@ least-both a b k h = go (ltb a b) refl h
     go true e l = (l, omega (arith, ltb-true a b e))
     go false e l = (omega (arith, ltb-false a b e), l)
 
-pub least-over : (a b k : ℕ) → k < a → k < b → k < least a b
+least-over : (a b k : ℕ) → k < a → k < b → k < least a b
 unfolding least
 least-over a b k g h = go (ltb a b)
   where
@@ -134,7 +134,7 @@ shown-inside f n frame place from to known =
     check e (inr is) false d = omega (arith, to, crc-end f n (ltb-false 5 f d))
 
 -- what passing a stuff bit in row f leads to: none is due behind it
-abbrev pub Passes : List ℕ → ℕ → Seen → ℕ → List ℕ → Step → Type 0
+abbrev Passes : List ℕ → ℕ → Seen → ℕ → List ℕ → Step → Type 0
 Passes line f seen left frame (Next next) =
     (run : Run) × Within line f next run left frame × (stuffDue run frame ≡ false) × (next .place < next .stop) × (seen .place ≤ next .place)
 Passes line f seen left frame (Refused refusal) = scanned line ≡ stopped refusal
@@ -288,7 +288,7 @@ module _ (line : List ℕ) (f : ℕ) (seen : Seen) (run : Run) (left : ℕ) (fra
         byte true d = went _ (byte-above-1 run frame (seen .place) b begun (ltb-true _ _ d))
         byte false d = sixth (ltb-false _ _ d) (eqb b (seen .raw % 2)) refl
 
-    pub pass-goes : f ≤ 5 → Passes line f seen left frame (passed line seen)
+    pass-goes : f ≤ 5 → Passes line f seen left frame (passed line seen)
     unfolding passed
     pass-goes g = go (dueIn (seen .raw)) refl
       where
