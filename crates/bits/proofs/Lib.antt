@@ -2,6 +2,7 @@ pub mod Everywhere
 pub mod Numbers
 pub mod Below
 pub mod Rows
+pub mod Fours
 pub mod Same
 pub mod Packing
 pub mod Filling

@@ -2,6 +2,7 @@ pub mod Same
 pub mod Numbers
 pub mod Below
 pub mod Rows
+pub mod Fours
 pub mod Packing
 pub mod Neighbours
 pub mod Stuffing

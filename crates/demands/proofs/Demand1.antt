@@ -46,7 +46,7 @@ use Rattle.field.proofs.table.rows.Reads as rows
 use Rattle.frame.proofs.make_frame.Reads as make-frame
 use Rattle.frame.proofs.frame_length.Reads as frame-length
 use Rattle.frame.proofs.frame_bounds.Reads as frame-bounds
-use Rattle.frame.proofs.crc.of_frame.Reads as of-frame
+use Rattle.crc.proofs.of_frame.Reads as of-frame
 use Rattle.line.proofs.read_line.Reads as read-line
 use Rattle.words.proofs.word.Reads as word
 use Rattle.words.proofs.word_in.Reads as word-in

@@ -40,8 +40,8 @@ use Rattle.field.specs.Decode.{decodeAnswer, payloadOf}
 use Rattle.field.proofs.FieldBits.{field-length, bits-of-field}
 use Rattle.field.proofs.EncodeAnswers.{encode-accepts}
 use Rattle.field.proofs.RoundTrip.{payload-of-field, decode-encode, field-of-payload}
+use Rattle.crc.specs.Crc.{crc}
 use Rattle.frame.specs.Header.{header}
-use Rattle.frame.specs.Crc.{crc}
 use Rattle.frame.specs.Answers.{payloadLine, makeAnswer}
 use Rattle.frame.proofs.PayloadLine.{frame-is}
 use Rattle.frame.proofs.FrameAnswers.{make-accepts}

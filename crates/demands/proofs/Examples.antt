@@ -14,8 +14,8 @@ use Rattle.field.specs.Padding.{padding}
 use Rattle.field.specs.Field.{fieldBits, fieldOf}
 use Rattle.field.specs.Parts.{breakPart, wordsPart, paddingPart}
 use Rattle.field.specs.Decode.{decodeAnswer}
+use Rattle.crc.specs.Crc.{xor, divide, remainder, crc}
 use Rattle.frame.specs.Header.{header}
-use Rattle.frame.specs.Crc.{xor, divide, remainder, crc}
 use Rattle.frame.specs.Line.{crcBits, stuffedRow, lineOf, frameLine}
 use Rattle.frame.specs.StuffBits.{stuffBitsIn, headerStuffBits}
 use Rattle.frame.specs.Answers.{lengthAnswer, boundsAnswer}

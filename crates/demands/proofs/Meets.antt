@@ -30,8 +30,8 @@ use Rattle.frame.proofs.frame_length.Met as frame-length
 use Rattle.frame.proofs.frame_length.Statement as frame-length-contract
 use Rattle.frame.proofs.frame_bounds.Met as frame-bounds
 use Rattle.frame.proofs.frame_bounds.Statement as frame-bounds-contract
-use Rattle.frame.proofs.crc.of_frame.Met as of-frame
-use Rattle.frame.proofs.crc.of_frame.Statement as of-frame-contract
+use Rattle.crc.proofs.of_frame.Met as of-frame
+use Rattle.crc.proofs.of_frame.Statement as of-frame-contract
 use Rattle.line.proofs.read_line.Met as read-line
 use Rattle.line.proofs.read_line.Statement as read-line-contract
 use Rattle.words.proofs.word.Met as word

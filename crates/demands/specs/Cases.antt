@@ -7,8 +7,8 @@ use Rattle.bits.specs.Packing.{unpacked}
 use Rattle.refusals.specs.Table.{answerNumbers}
 use Rattle.field.specs.Field.{fieldOf}
 use Rattle.field.specs.Decode.{decodeAnswer}
+use Rattle.crc.specs.Crc.{crc}
 use Rattle.frame.specs.Header.{header}
-use Rattle.frame.specs.Crc.{crc}
 use Rattle.frame.specs.StuffBits.{afterHeader, afterCrc}
 use Rattle.frame.specs.Answers.{lengthAnswer, boundsAnswer, boundsNumbers}
 

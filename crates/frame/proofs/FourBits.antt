@@ -1,6 +1,5 @@
--- The laws of four bits at a time. Assumes nothing.
---     fours-next       the next four bits where a loop counts down those that are left; fours-none where none is left
---     run-fours, drawn-fours, sent-fours    the run that they leave, the stuff bits they draw, and what is sent
+-- The laws of sending four bits at a time. Assumes nothing.
+--     run-fours, drawn-fours, sent-fours    the run that the next four leave, the stuff bits they draw, and what is sent
 --     sent-row         four bits as they are sent; sent-run the run they leave; sent-drawn whether a stuff bit is among them
 --     sent-below       six bits hold it; sent-length how many bits are sent
 --     sent-list-at, byte-list-at    what the lists hold; bytes-are the bytes of such a number (bytesIn)
@@ -16,24 +15,16 @@ use lib.ListN.{length, getD}
 use mir.Facts.{and-yes}
 use Rattle.bits.specs.declared.Run.{Run}
 use Rattle.bits.specs.Rows.{bits, number}
+use Rattle.bits.specs.Fours.{fourAt}
 use Rattle.bits.specs.Same.{same}
 use Rattle.bits.specs.Stuffing.{nothingSent, stuffAfter, runAfter, stuffed, stuffCount, runAfterRow}
 use Rattle.bits.proofs.Everywhere.{everywhere, everywhere-at}
 use Rattle.bits.proofs.Numbers.{numbers-at}
-use Rattle.bits.proofs.Rows.{bits-length, bits-split, bits-low}
+use Rattle.bits.proofs.Rows.{bits-length}
+use Rattle.bits.proofs.Fours.{fours-next}
 use Rattle.bits.proofs.Same.{same-eq}
 use Rattle.bits.proofs.Stuffing.{run, stuffed-append, stuffCount-append, runAfterRow-append}
-use Rattle.frame.specs.Fours.{fourAt, runOf, sentOf, sentList, bytesOf, byteList}
-
-pub fours-next : (left n : ℕ) → 0 < left → bits (4 * left) n ≡ bits 4 (fourAt n (left - 1)) ++ bits (4 * (left - 1)) n
-fours-next left n h =
-    let more : 4 * left ≡ 4 + 4 * (left - 1) = omega arith in
-    ap (λ (k : ℕ). bits k n) more ∙ bits-split 4 (4 * (left - 1)) n
-    ∙ ap (λ (l : List ℕ). l ++ bits (4 * (left - 1)) n) (sym (bits-low 4 _))
-
-pub fours-none : (left n : ℕ) → left ≡ 0 → bits (4 * left) n ≡ []
-unfolding bits
-fours-none left n e = ap (λ (k : ℕ). bits (4 * k) n) e
+use Rattle.frame.specs.Fours.{runOf, sentOf, sentList, bytesOf, byteList}
 
 pub run-fours : (r : Run) (left n : ℕ) → 0 < left
     → runAfterRow r (bits (4 * left) n) ≡ runAfterRow (runAfterRow r (bits 4 (fourAt n (left - 1)))) (bits (4 * (left - 1)) n)

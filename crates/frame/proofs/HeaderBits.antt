@@ -2,19 +2,17 @@
 --     header-number    they are those of the number that the code puts together
 --     header-length, header-below    19, each 0 or 1
 --     start-in-place, identifier-in-place, fixed-in-place, dlc-in-place    where each of them stands
---     data-bytes, data-bytes-most    a DLC up to 8 counts the data bytes; one above stands for 8
 use mathlib.Core.Path.{_≡_, refl, _∙_}
 use mathlib.Core.List.{[], _∷_}
-use Prim.Native.Nat.{ℕ, _+_, _*_, _/_, _%_, _^_, _≤_, _<_}
+use Prim.Native.Nat.{ℕ, _+_, _*_, _/_, _%_, _^_, _<_}
 use native.Mathlib.Omega.{arith}
 use lib.Dec.{lit<}
 use lib.ListN.{length, take, drop}
-use borrow.Author.Tests.{lt-ltb, le-ltb}
 use Rattle.bits.specs.Below.{Below}
 use Rattle.bits.specs.Rows.{bits}
 use Rattle.bits.proofs.Below.{below-append}
 use Rattle.bits.proofs.Rows.{bits-below, bits-join}
-use Rattle.frame.specs.Header.{header, dataBytes}
+use Rattle.frame.specs.Header.{header}
 
 pub header-number : (identifier n : ℕ) → identifier < 2048 → n < 16 → bits 19 (identifier * 128 + n) ≡ header identifier n
 unfolding bits header
@@ -50,11 +48,3 @@ fixed-in-place identifier n = refl
 pub dlc-in-place : (identifier n : ℕ) → drop 15 (header identifier n) ≡ bits 4 n
 unfolding bits header
 dlc-in-place identifier n = refl
-
-pub data-bytes : (dlc : ℕ) → dlc ≤ 8 → dataBytes dlc ≡ dlc
-unfolding dataBytes
-data-bytes dlc h = simp (le-ltb 8 dlc h)
-
-pub data-bytes-most : (dlc : ℕ) → 8 < dlc → dataBytes dlc ≡ 8
-unfolding dataBytes
-data-bytes-most dlc h = simp (lt-ltb 8 dlc h)

@@ -1,8 +1,4 @@
 pub mod HeaderBits
-pub mod Division
-pub mod Linear
-pub mod CrcFours
-pub mod CrcExamples
 pub mod CrcBits
 pub mod FourBits
 pub mod Quiet

@@ -4,10 +4,11 @@
 --     after-header, after-data, after-crc    the stuff bits that follow bits of a part, by the part alone and the run before it
 --     line-sent       a line as the code sends it: fourteen CRC bits with what goes before them, then eleven bits as they are
 --     line-parts      and in two parts, of which the second follows the data field
+--     crc-of-parts    the CRC of a frame's parts is that of the header and the data field that its DLC announces, and has 15 bits
 --     quiet-length    how many bits the line of a frame's parts has, where no data bit draws a stuff bit
-use mathlib.Core.Path.{_≡_, refl, sym, ap, ap₂, _∙_}
+use mathlib.Core.Path.{_≡_, refl, sym, ap, ap₂, _∙_, subst}
 use mathlib.Core.List.{List, _++_, append-assoc}
-use Prim.Native.Nat.{ℕ, _+_, _*_, _/_, _%_, _≤_}
+use Prim.Native.Nat.{ℕ, _+_, _*_, _/_, _%_, _^_, _≤_, _<_}
 use native.Mathlib.Omega.{arith}
 use lib.ListN.{length, take, drop, length-append, length-take, length-drop}
 use lib.Seq.{take-at, drop-at, take-all}
@@ -16,7 +17,10 @@ use Rattle.bits.specs.Rows.{bits}
 use Rattle.bits.specs.Stuffing.{nothingSent, stuffed, stuffCount, runAfterRow}
 use Rattle.bits.proofs.Rows.{bits-length}
 use Rattle.bits.proofs.Stuffing.{runAfterRow-append, stuffCount-append, stuffed-append, stuffed-length}
-use Rattle.frame.specs.Crc.{crc}
+use Rattle.crc.specs.Crc.{crc}
+use Rattle.crc.specs.Dlc.{dataBytes}
+use Rattle.crc.proofs.Dlc.{data-bytes}
+use Rattle.crc.proofs.Division.{crc-below}
 use Rattle.frame.specs.Line.{crcBits, stuffedCrcBits, stuffedRow, lineOf}
 use Rattle.frame.specs.StuffBits.{stuffBitsIn, afterHeader, afterData, afterCrc}
 use Rattle.frame.specs.Writing.{tailRow}
@@ -102,6 +106,12 @@ line-parts headerBits dataBits =
     ∙ ap (λ (l : List ℕ). stuffed nothingSent l ++ rest) (sym (append-assoc headerBits dataBits check))
     ∙ ap (λ (l : List ℕ). l ++ rest) (stuffed-append nothingSent before check)
     ∙ append-assoc (stuffed nothingSent before) (stuffed (runAfterRow nothingSent before) check) rest
+
+pub crc-of-parts : (p : Parts) (r : ℕ) → Fit p → r ≡ crc (headerBits p ++ bits (8 * dataBytes (p .header % 16)) (p .field))
+    → (r ≡ crc (headerBits p ++ dataBits p)) × (r < 2 ^ 15)
+crc-of-parts p r fit e =
+    let bytes = ap dataBytes (fit .dlc) ∙ data-bytes (p .n) (fit .few) in
+    (e ∙ ap (λ (n : ℕ). crc (headerBits p ++ bits (8 * n) (p .field))) bytes, subst (λ (x : ℕ). x < 2 ^ 15) (sym e) (crc-below _))
 
 pub quiet-length : (p : Parts) → Fit p →
     let x = crc (headerBits p ++ dataBits p) in

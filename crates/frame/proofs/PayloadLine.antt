@@ -23,8 +23,8 @@ use Rattle.field.specs.Field.{fieldBits, fieldOf}
 use Rattle.field.proofs.Coded.{IsField}
 use Rattle.field.proofs.FieldBits.{field-length, bits-of-field}
 use Rattle.field.proofs.Sizes.{fieldBytes-few}
+use Rattle.crc.specs.Crc.{crc}
 use Rattle.frame.specs.Header.{header}
-use Rattle.frame.specs.Crc.{crc}
 use Rattle.frame.specs.Line.{crcBits, stuffedRow, ending, lineOf, frameLine}
 use Rattle.frame.specs.Answers.{payloadLine}
 use Rattle.frame.proofs.HeaderBits.{header-below}

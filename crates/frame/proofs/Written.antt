@@ -18,11 +18,12 @@ use lib.ListN.{length, length-append, drop, set}
 use lib.Seq.{sets, length-sets, sets-eq, set-set, set-comm}
 use Rattle.bits.specs.declared.Run.{Run}
 use Rattle.bits.specs.Rows.{bits}
+use Rattle.bits.specs.Fours.{fourAt}
 use Rattle.bits.specs.Stuffing.{nothingSent, stuffed, stuffCount, runAfterRow}
 use Rattle.bits.proofs.Filling.{sets-append}
 use Rattle.bits.proofs.Rows.{bits-length, bits-next, bits-low}
 use Rattle.bits.proofs.Stuffing.{runAfterRow-append, stuffed-append}
-use Rattle.frame.specs.Fours.{fourAt, runOf, sentOf, quietCheck}
+use Rattle.frame.specs.Fours.{runOf, sentOf, quietCheck}
 use Rattle.frame.specs.declared.writing.Spot.{Spot}
 use Rattle.frame.specs.Writing.{Written, tailRow}
 use Rattle.frame.proofs.Quiet.{quiet-sent, header-run-is, header-sent, check-sent}

@@ -1,6 +1,6 @@
 -- Four bits at a time, as the code sends them; no public contract cites it. Assumes nothing.
 use mathlib.Core.Path.{_≡_}
-use Prim.Native.Nat.{ℕ, _+_, _-_, _*_, _/_, _%_, _^_, _≤_, _<_}
+use Prim.Native.Nat.{ℕ, _+_, _-_, _*_, _/_, _%_, _≤_, _<_}
 use mathlib.Core.List.{List, map}
 use lib.ListN.{length}
 use Rattle.bits.specs.Numbers.{numbersFrom}
@@ -8,10 +8,6 @@ use Rattle.bits.specs.Rows.{bits, number}
 use Rattle.bits.specs.declared.Run.{Run}
 use Rattle.bits.specs.Stuffing.{nothingSent, stuffed, stuffCount, runAfterRow}
 use Rattle.frame.specs.declared.stuffing.Counted.{Counted}
-
--- the four bits of a number behind which `left` times four are left
-abbrev pub fourAt : ℕ → ℕ → ℕ
-fourAt number left = number / 2 ^ (4 * left) % 16
 
 -- the run that ends four bits; it is that of all that was sent, if these were sent last
 abbrev pub runOf : ℕ → Run

@@ -1,6 +1,4 @@
 pub mod Header
-pub mod Crc
-pub mod CrcFours
 pub mod Line
 pub mod StuffBits
 pub mod Answers

@@ -5,8 +5,8 @@ use lib.ListN.{length, take, drop, replicate}
 use Rattle.bits.specs.Rows.{bits}
 use Rattle.bits.specs.Packing.{unpacked}
 use Rattle.bits.specs.Stuffing.{nothingSent, stuffed}
+use Rattle.crc.specs.Crc.{crc}
 use Rattle.frame.specs.Header.{header}
-use Rattle.frame.specs.Crc.{crc}
 
 -- the CRC bits, of header and data bits
 unfoldable pub crcBits : List ℕ → List ℕ → List ℕ

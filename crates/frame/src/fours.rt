@@ -1,7 +1,7 @@
 // A number four bits at a time, the highest first.
 ghost use mathlib.Core.Path.{_≡_};
 ghost use Prim.Native.Nat.{_<_};
-ghost use Rattle.frame.specs.Fours.{fourAt};
+ghost use Rattle.bits.specs.Fours.{fourAt};
 
 // The four bits behind which `left` times four are left.
 pub(crate) fn at(number: u64, left: usize) -> u64

@@ -4,7 +4,6 @@ ghost use mathlib.Core.Path.{_≡_};
 ghost use Prim.Native.Nat.{_+_, _*_, _≤_};
 ghost use lib.ListN.{length};
 ghost use Rattle.frame.specs.Parts.{Fit, lineIn};
-use crate::crc;
 use crate::parts::Parts;
 use crate::sent_list;
 use crate::stuffing;
@@ -14,7 +13,7 @@ pub(crate) fn of(parts: Parts) -> usize
     requires { ⌜ Fit parts ⌝ }
     ensures { λ r. ⌜ r ≡ length (lineIn parts) ⌝ }
 {
-    let crc = crc::of(parts.header, parts.field, parts.n);
+    let crc = crc::of_frame(parts.header, parts.field);
     let list = sent_list::list();
     let header = stuffing::count(&list, stuffing::start(parts.header), parts.header, 4);
     let last = stuffing::behind(header.last, parts.field, parts.n);

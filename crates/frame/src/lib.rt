@@ -7,8 +7,6 @@ ghost use Rattle.refusals.specs.After.{after};
 ghost use Rattle.frame.specs.Answers.{payloadLine, makeAnswer, lengthAnswer, boundsAnswer};
 
 mod byte_list;
-pub mod crc;
-mod crc_list;
 mod fours;
 mod framing;
 mod header;

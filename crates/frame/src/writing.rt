@@ -10,7 +10,6 @@ ghost use Rattle.frame.specs.Fours.{runOf, sentList, byteList};
 ghost use Rattle.frame.specs.Parts.{Fit, lineIn};
 ghost use Rattle.frame.specs.Writing.{Written, tailRow};
 use crate::byte_list;
-use crate::crc;
 use crate::fours;
 use crate::parts::Parts;
 use crate::sent_list;
@@ -28,7 +27,7 @@ pub(crate) fn whole(parts: Parts, line: &mut [u8]) -> usize
     ensures length { λ r. ⌜ r ≡ length (lineIn parts) ⌝ }
     ensures memory { λ r. ⌜ now (line .exit) ≡ lineIn parts ++ drop (length (lineIn parts)) (now (line .entry)) ⌝ }
 {
-    let crc = crc::of(parts.header, parts.field, parts.n);
+    let crc = crc::of_frame(parts.header, parts.field);
     let list = sent_list::list();
     let bytes = byte_list::list();
     let behind_header = header(&list, &bytes, parts.header, line);

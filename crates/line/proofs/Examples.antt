@@ -12,7 +12,7 @@ use Rattle.words.specs.Symbols.{placeIn, symbolOf}
 use Rattle.field.specs.Padding.{padding}
 use Rattle.field.specs.Parts.{breakPart, wordsPart, paddingPart}
 use Rattle.field.specs.Decode.{decodeAnswer}
-use Rattle.frame.specs.Crc.{xor, divide, remainder, crc}
+use Rattle.crc.specs.Crc.{xor, divide, remainder, crc}
 use Rattle.line.specs.Fields.{fieldsOf, form}
 use Rattle.line.specs.Scan.{dlcIn, crcStart, complete, stuffDue, mustBe, shown, verdict, runWith, frameWith, scan, scanned}
 use Rattle.line.specs.Read.{identifierIn, fieldIn, readAnswer, lineNumbers}

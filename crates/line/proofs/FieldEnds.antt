@@ -21,8 +21,8 @@ use Rattle.bits.specs.declared.Run.{Run}
 use Rattle.bits.specs.Stuffing.{nothingSent}
 use Rattle.bits.proofs.Everywhere.{everywhere, everywhere-at}
 use Rattle.refusals.specs.declared.Refusal.the-variants.{FieldLength, LineLength}
-use Rattle.frame.specs.Header.{dataBytes}
-use Rattle.frame.specs.Crc.{crc}
+use Rattle.crc.specs.Crc.{crc}
+use Rattle.crc.specs.Dlc.{dataBytes}
 use Rattle.line.specs.Fields.{fixed, free}
 use Rattle.line.specs.Scan.{dlcIn, complete, crcStart, crcRight, Verdict, right, shown, stopped, onward, scan, scanned}
 use Rattle.line.specs.Read.{identifierIn}

@@ -17,11 +17,11 @@ use Rattle.bits.specs.Packing.{unpacked, packed}
 use Rattle.bits.proofs.Below.{below-append}
 use Rattle.bits.proofs.Rows.{bits-length, bits-below, number-low}
 use Rattle.bits.proofs.Packing.{unpacked-length, unpacked-below, packed-unpacked}
+use Rattle.crc.specs.Crc.{crc}
+use Rattle.crc.proofs.Division.{crc-below}
 use Rattle.frame.specs.Header.{header}
-use Rattle.frame.specs.Crc.{crc}
 use Rattle.frame.specs.Line.{crcBits, ending}
 use Rattle.frame.proofs.HeaderBits.{header-length, header-below, dlc-in-place}
-use Rattle.frame.proofs.Division.{crc-below}
 use Rattle.frame.proofs.LineParts.{crc-length}
 use Rattle.line.specs.Fields.{either, fieldsOf, form}
 use Rattle.line.specs.Scan.{dlcIn, crcStart}

@@ -15,8 +15,8 @@ use Rattle.bits.specs.Packing.{unpacked}
 use Rattle.bits.proofs.Below.{below-take, below-drop}
 use Rattle.bits.proofs.Rows.{number-low, bits-number}
 use Rattle.bits.proofs.Packing.{packed-length, packed-below, unpacked-packed}
+use Rattle.crc.specs.Crc.{crc}
 use Rattle.frame.specs.Header.{header}
-use Rattle.frame.specs.Crc.{crc}
 use Rattle.frame.specs.Line.{crcBits, ending}
 use Rattle.line.specs.Fields.{either, fieldsOf, form}
 use Rattle.line.specs.Scan.{dlcIn, crcStart}

@@ -23,9 +23,9 @@ use Rattle.bits.proofs.Packing.{packed-below, packed-unpacked}
 use Rattle.bits.proofs.Rows.{bits-length, bits-below, bits-split, bits-join, number-low}
 use Rattle.field.specs.Coded.{fieldFrom}
 use Rattle.field.proofs.Coded.{from-length, from-bits}
-use Rattle.frame.specs.Header.{dataBytes}
-use Rattle.frame.specs.Crc.{crc}
-use Rattle.frame.proofs.HeaderBits.{data-bytes}
+use Rattle.crc.specs.Crc.{crc}
+use Rattle.crc.specs.Dlc.{dataBytes}
+use Rattle.crc.proofs.Dlc.{data-bytes}
 use Rattle.line.specs.Scan.{dlcIn, crcStart, crcRight}
 use Rattle.line.specs.Read.{identifierIn, fieldIn}
 

@@ -14,7 +14,7 @@ use borrow.Author.Tests.{eqb-true, eq-eqb, ne-eqb, not-false}
 use Rattle.bits.specs.Below.{Below}
 use Rattle.bits.specs.Rows.{number}
 use Rattle.bits.proofs.Below.{below-drop}
-use Rattle.frame.specs.Crc.{crc}
+use Rattle.crc.specs.Crc.{crc}
 use Rattle.line.specs.Fields.{fieldsOf, form}
 use Rattle.line.specs.Scan.{dlcIn, crcStart, complete, dlcRefused, crcRight}
 use Rattle.line.proofs.Verdicts.{dlc-taken, taken-dlc}

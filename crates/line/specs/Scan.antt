@@ -10,7 +10,7 @@ use Rattle.bits.specs.Rows.{number}
 use Rattle.bits.specs.Stuffing.{nothingSent, counted}
 use Rattle.refusals.specs.declared.Refusal.{Refusal}
 use Rattle.refusals.specs.declared.Refusal.the-variants.{FieldLength, LineByte, StuffBit, LineLength, Crc, FixedBit}
-use Rattle.frame.specs.Crc.{crc}
+use Rattle.crc.specs.Crc.{crc}
 use Rattle.frame.specs.Line.{stuffedCrcBits}
 use Rattle.line.specs.Fields.{either, fieldsOf, form}
 

@@ -8,8 +8,8 @@ use lib.ListN.{length, getD}
 use Rattle.bits.specs.Rows.{bits}
 use Rattle.refusals.specs.declared.Refusal.the-variants.{FieldLength, LineByte, StuffBit, LineLength, Crc, FixedBit}
 use Rattle.field.specs.Coded.{fieldFrom}
-use Rattle.frame.specs.Header.{dataBytes}
-use Rattle.frame.specs.Crc.{crc}
+use Rattle.crc.specs.Crc.{crc}
+use Rattle.crc.specs.Dlc.{dataBytes}
 use Rattle.line.specs.Fields.{fixed, free}
 use Rattle.line.specs.Scan.{Scanned, whole, stopped}
 use Rattle.line.specs.Read.{identifierIn, fieldIn}

@@ -5,7 +5,6 @@ ghost use Rattle.line.specs.Steps.{headerRead, fieldRead, crcRead, partE
 use crate::fields;
 use crate::seen::Seen;
 use crate::seen::Step;
-use frame::crc;
 use refusals::Refusal;
 
 // Refused with 11 where the line ends within the field; with 3 behind the DLC and with 12 behind the CRC, at the bit before.

@@ -46,7 +46,7 @@ returns-2 c =
       short = found coded .short;
       line-is = line;
       enough = rw line (room-enough _ payload bytes (found coded .short));
-      fit = record { starts = header .1; few = few coded; quiet = coded-quiet _ payload _ _ _ (found coded) (header .0) bytes };
+      fit = record { starts = header .1; dlc = header .2; few = few coded; quiet = coded-quiet _ payload _ _ _ (found coded) (header .0) bytes };
     }
 
 returns-3 : tie.Need-returns-3

@@ -12,7 +12,7 @@ add-result : tie.Need-add-result
 add-result c = search needs
 
 returns : tie.Need-returns
-returns c = (header-number _ _ (c .pre .0) (c .pre .1), omega arith)
+returns c = (header-number _ _ (c .pre .0) (c .pre .1), omega arith, omega arith)
 
 pub of-spec : {M : Type 1} → statement M
 of-spec = tie.close (tie.spec mul-result add-result returns)

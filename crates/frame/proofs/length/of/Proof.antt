@@ -1,23 +1,29 @@
 -- `frame::length::of` meets its contract: the bits beside the stuff bits, and the stuff bits that the calls counted. Assumes nothing.
 use mathlib.Core.Path.{_≡_, sym, ap, ap₂, _∙_}
 use mathlib.Core.List.{_++_}
-use Prim.Native.Nat.{ℕ, _+_, _/_}
+use Prim.Native.Nat.{ℕ, _+_, _/_, _^_, _<_}
 use native.Mathlib.Omega.{arith}
 use borrow.Author.Needs.{needs}
 use Rattle.bits.specs.declared.Run.{Run}
 use Rattle.bits.specs.Rows.{bits}
 use Rattle.bits.specs.Stuffing.{nothingSent, stuffCount, runAfterRow}
 use Rattle.bits.proofs.Rows.{bits-length}
-use Rattle.frame.specs.Crc.{crc}
+use Rattle.crc.specs.Crc.{crc}
 use Rattle.frame.specs.Fours.{runOf, quietCheck}
 use Rattle.frame.specs.Parts.{headerBits, dataBits}
-use Rattle.frame.proofs.LineParts.{headerRun, dataRun, quiet-length}
+use Rattle.frame.proofs.LineParts.{headerRun, dataRun, crc-of-parts, quiet-length}
 use Rattle.frame.proofs.Quiet.{header-drawn, header-run-is, check-drawn}
 use Rattle.frame.proofs.length.of.Statement.{statement}
 use Rattle.frame.proofs.length.of.Tie as tie
 
-of-requires : tie.Need-of-requires
-of-requires c κs = search needs
+of-frame-requires : tie.Need-of-frame-requires
+of-frame-requires c κs = search needs
+
+-- the CRC
+checked : (c : tie.After-of-frame) →
+    let p = c .before .args .parts in
+    (c .of-frame .result ≡ crc (headerBits p ++ dataBits p)) × (c .of-frame .result < 2 ^ 15)
+checked c = crc-of-parts (c .before .args .parts) _ (c .before .pre) (c .of-frame .ensures)
 
 list-requires : tie.Need-list-requires
 list-requires c κs = search needs
@@ -47,7 +53,7 @@ behind-requires c κs =
     (c .count .ensures .low, ap (λ (r : Run). stuffCount r (dataBits (start .args .parts))) (header c .0) ∙ start .pre .quiet)
 
 check-requires : tie.Need-check-requires
-check-requires c κs = search needs
+check-requires c κs = checked (c .before .before .before .before .before .before) .1
 
 count-requires-2 : tie.Need-count-requires-2
 count-requires-2 c κs = search needs
@@ -67,7 +73,7 @@ returns c =
     let behind : runOf (c .before .before .before .before .behind .result) ≡ dataRun (headerBits p) (dataBits p) =
     c .before .before .before .before .behind .ensures .0 ∙ ap (λ (r : Run). runAfterRow r (dataBits p)) (header counted .0) in
     let sent : c .before .before .check .result ≡ quietCheck x =
-    c .before .before .check .ensures ∙ ap quietCheck (c .before .before .before .before .before .before .before .before .before .of .ensures .0) in
+    c .before .before .check .ensures ∙ ap quietCheck (checked (c .before .before .before .before .before .before .before .before .before) .0) in
     let check : c .before .count2 .result .drawn ≡ stuffCount (dataRun (headerBits p) (dataBits p)) (bits 14 (x / 2)) =
     c .before .count2 .ensures .drawn-is
     ∙ ap₂ (λ (r : Run) (n : ℕ). stuffCount r (bits 16 n)) behind sent ∙ check-drawn (dataRun (headerBits p) (dataBits p)) x in
@@ -77,7 +83,7 @@ pub of-spec : {M : Type 1} → statement M
 of-spec =
     tie.close
     (tie.spec
-    of-requires
+    of-frame-requires
     list-requires
     start-requires
     count-requires

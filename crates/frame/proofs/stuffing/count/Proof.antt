@@ -7,10 +7,12 @@ use native.Mathlib.Omega.{arith}
 use lib.Dec.{lit<}
 use Rattle.bits.specs.declared.Run.{Run}
 use Rattle.bits.specs.Rows.{bits}
+use Rattle.bits.specs.Fours.{fourAt}
 use Rattle.bits.specs.Stuffing.{stuffCount, runAfterRow}
 use Rattle.bits.proofs.Rows.{bits-length}
-use Rattle.frame.specs.Fours.{fourAt, runOf, sentOf}
-use Rattle.frame.proofs.FourBits.{fours-none, run-fours, drawn-fours, sent-run, sent-drawn, sent-below}
+use Rattle.bits.proofs.Fours.{fours-none}
+use Rattle.frame.specs.Fours.{runOf, sentOf}
+use Rattle.frame.proofs.FourBits.{run-fours, drawn-fours, sent-run, sent-drawn, sent-below}
 use Rattle.frame.proofs.stuffing.count.Statement.{statement}
 use Rattle.frame.proofs.stuffing.count.Tie as tie
 

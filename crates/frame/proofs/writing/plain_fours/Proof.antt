@@ -7,10 +7,10 @@ use native.Mathlib.Omega.{arith}
 use lib.ListN.{length}
 use lib.Seq.{sets, length-sets}
 use Rattle.bits.specs.Rows.{bits}
+use Rattle.bits.specs.Fours.{fourAt}
 use Rattle.bits.proofs.Filling.{sets-append}
 use Rattle.bits.proofs.Rows.{bits-length}
-use Rattle.frame.specs.Fours.{fourAt}
-use Rattle.frame.proofs.FourBits.{fours-next, fours-none}
+use Rattle.bits.proofs.Fours.{fours-next, fours-none}
 use Rattle.frame.proofs.writing.plain_fours.Statement.{statement}
 use Rattle.frame.proofs.writing.plain_fours.Tie as tie
 

@@ -8,8 +8,9 @@ use lib.ListN.{length, length-append}
 use lib.Seq.{sets}
 use Rattle.bits.specs.Rows.{bits}
 use Rattle.bits.specs.Stuffing.{stuffed, runAfterRow}
+use Rattle.bits.proofs.Fours.{fours-none}
 use Rattle.frame.specs.Fours.{runOf}
-use Rattle.frame.proofs.FourBits.{fours-none, sent-fours}
+use Rattle.frame.proofs.FourBits.{sent-fours}
 use Rattle.frame.proofs.Written.{written-length, written-next}
 use Rattle.frame.proofs.writing.stuffed.Statement.{statement}
 use Rattle.frame.proofs.writing.stuffed.Tie as tie

@@ -9,11 +9,11 @@ use Rattle.bits.specs.declared.Run.{Run}
 use Rattle.bits.specs.Stuffing.{nothingSent, stuffed, stuffCount, runAfterRow}
 use Rattle.bits.proofs.Rows.{bits-length}
 use Rattle.bits.proofs.Stuffing.{stuffed-append}
-use Rattle.frame.specs.Crc.{crc}
+use Rattle.crc.specs.Crc.{crc}
 use Rattle.frame.specs.Parts.{headerBits, dataBits, Fit, lineIn}
 use Rattle.frame.specs.Writing.{tailRow}
 use Rattle.frame.specs.declared.parts.Parts.{Parts}
-use Rattle.frame.proofs.LineParts.{headerRun, line-parts}
+use Rattle.frame.proofs.LineParts.{headerRun, line-parts, crc-of-parts}
 use Rattle.frame.proofs.Quiet.{quiet-sent}
 use Rattle.frame.proofs.Written.{written-length, written-behind, written-line}
 use Rattle.frame.proofs.writing.whole.Statement.{statement}
@@ -37,8 +37,8 @@ module _ (p : Parts) (fit : Fit p) where
       ∙ length-append (stuffed nothingSent (headerBits p)) (dataBits p)
       ∙ ap (λ (k : ℕ). length (stuffed nothingSent (headerBits p)) + k) (bits-length (8 * p .n) (p .field))
 
-of-requires : tie.Need-of-requires
-of-requires c κs = search needs
+of-frame-requires : tie.Need-of-frame-requires
+of-frame-requires c κs = search needs
 
 list-requires : tie.Need-list-requires
 list-requires c κs = search needs
@@ -71,15 +71,15 @@ tail-requires c κs =
     let start = c .before .before .before .before .before .before .before .before .before .before .before .before .before .before .before .before .before .before in
     let p = start .args .parts in
     let fit = start .pre .0 in
-    let of = c .before .before .before .before .before .before .before .before .before .before .before .before .before .before .before .before .of .ensures in
+    let check = crc-of-parts p _ fit (c .before .before .before .before .before .before .before .before .before .before .before .before .before .before .before .before .of-frame .ensures) in
     let header = c .before .before .before .before .before .before .before .before .before .before .header .ensures in
     let field = c .before .before .before .before .before .field .ensures in
     let written = written-behind (headerBits p) (dataBits p) header field in (
       c .before .before .before .before .before .before .before .before .before .before .before .before .before .before .before .list .ensures,
       c .before .before .before .before .before .before .before .before .before .before .before .before .before .before .list2 .ensures,
-      of .1,
+      check .1,
       field .low,
-      rw (written .run-is, of .0) (omega (arith, start .pre .1, room p fit, written .at-is, written-length written)),
+      rw (written .run-is, check .0) (omega (arith, start .pre .1, room p fit, written .at-is, written-length written)),
     )
 
 same-length : tie.Need-same-length
@@ -89,11 +89,11 @@ returns : tie.Need-returns
 returns c =
     let start = c .before .before .before .before .before .before .before .before .before .before .before .before .before .before .before .before .before .before .before .before .before in
     let p = start .args .parts in
-    let of = c .before .before .before .before .before .before .before .before .before .before .before .before .before .before .before .before .before .before .before .of .ensures .0 in
+    let check = crc-of-parts p _ (start .pre .0) (c .before .before .before .before .before .before .before .before .before .before .before .before .before .before .before .before .before .before .before .of-frame .ensures) in
     let header = c .before .before .before .before .before .before .before .before .before .before .before .before .before .header .ensures in
     let field = c .before .before .before .before .before .before .before .before .field .ensures in
     let written = written-behind (headerBits p) (dataBits p) header field in
-    let tail = rw (written .run-is, of) at (c .before .before .tail .ensures) in
+    let tail = rw (written .run-is, check .0) at (c .before .before .tail .ensures) in
     let whole = sym (line-parts (headerBits p) (dataBits p)) in
     let line = written-line (headerBits p ++ dataBits p) _ (start .args .line .now) _ _ _ _ written (tail .0) (tail .1) (subst (λ (l : List ℕ). length l ≤ length (start .args .line .now)) (sym whole) (start .pre .1)) in
     (line .0 ∙ ap length whole, line .1 ∙ ap (λ (l : List ℕ). l ++ drop (length l) (start .args .line .now)) whole)
@@ -102,7 +102,7 @@ pub whole-spec : {M : Type 1} → statement M
 whole-spec =
     tie.close
     (tie.spec
-    of-requires
+    of-frame-requires
     list-requires
     list-requires-2
     header-requires

@@ -12,8 +12,8 @@ use lib.Bits.{bitXor, xor-shr, xor-mod}
 use lib.Dec.{lit<}
 use lib.Pow.{pow-mono, mod-pow-add}
 use Rattle.bits.specs.Rows.{bits}
-use Rattle.frame.specs.Crc.{xor, divide, remainder}
-use Rattle.frame.proofs.Division.{xor-is, divide-below, divide-short}
+use Rattle.crc.specs.Crc.{xor, divide, remainder}
+use Rattle.crc.proofs.Division.{xor-is, divide-below, divide-short}
 
 pub xor-bring : (k p q x y : ℕ) → x < 2 → y < 2 → xor (suc k) (p * 2 + x) (q * 2 + y) ≡ xor k p q * 2 + (x + y) % 2
 unfolding xor

@@ -12,10 +12,10 @@ use lib.Dec.{lit<}
 use lib.ListN.{getD, replicate}
 use Rattle.bits.specs.Rows.{bits}
 use Rattle.bits.proofs.Numbers.{numbers-at}
-use Rattle.frame.specs.Crc.{xor, divide, remainder, crc}
-use Rattle.frame.specs.CrcFours.{crcList, crcBehind}
-use Rattle.frame.proofs.Division.{xor-is, xor-below, remainder-append, crc-below, remainder-below}
-use Rattle.frame.proofs.Linear.{xor-bring, medial, linear-row, remainder-short}
+use Rattle.crc.specs.Crc.{xor, divide, remainder, crc}
+use Rattle.crc.specs.CrcFours.{crcList, crcBehind}
+use Rattle.crc.proofs.Division.{xor-is, xor-below, remainder-append, crc-below, remainder-below}
+use Rattle.crc.proofs.Linear.{xor-bring, medial, linear-row, remainder-short}
 
 -- 15 bits 0 brought down
 fifteen : ℕ → ℕ

@@ -1,16 +1,15 @@
--- `frame::crc::of` meets its contract: header and data field are brought down one after the other. Assumes nothing.
-use mathlib.Core.Path.{_≡_, sym, ap, ap₂, _∙_, subst}
+-- `crc::of` meets its contract: header and data field are brought down one after the other. Assumes nothing.
+use mathlib.Core.Path.{_≡_, sym, ap, ap₂, _∙_}
 use mathlib.Core.List.{List, [], _∷_, _++_}
 use Prim.Native.Nat.{ℕ, _*_, _/_, _%_, _^_, _<_}
 use native.Mathlib.Omega.{arith}
 use borrow.Author.Needs.{needs}
 use Rattle.bits.specs.Rows.{bits}
 use Rattle.bits.proofs.Rows.{bits-next}
-use Rattle.frame.specs.Crc.{crc}
-use Rattle.frame.proofs.Division.{crc-below}
-use Rattle.frame.proofs.CrcFours.{crc-nothing, crc-leading}
-use Rattle.frame.proofs.crc.of.Statement.{statement}
-use Rattle.frame.proofs.crc.of.Tie as tie
+use Rattle.crc.specs.Crc.{crc}
+use Rattle.crc.proofs.CrcFours.{crc-nothing, crc-leading}
+use Rattle.crc.proofs.of.Statement.{statement}
+use Rattle.crc.proofs.of.Tie as tie
 
 list-requires : tie.Need-list-requires
 list-requires c κs = search needs
@@ -43,11 +42,9 @@ returns c =
     let first = c .before .before .bring-down .ensures [] (ap (λ (x : ℕ). x * 2) (sym crc-nothing)) in
     let second = c .bring-down2 .ensures (bits 20 h) first in
     let half : c .bring-down2 .result / 2 ≡ crc (bits 20 h ++ bits (4 * (2 * n)) field) = omega (arith, second) in
-    let whole =
     half
     ∙ ap₂ (λ (l m : List ℕ). crc (l ++ m)) (twenty h (start .pre .0)) (ap (λ (k : ℕ). bits k field) all)
-    ∙ crc-leading (bits 19 h ++ bits (8 * n) field) in
-    (whole, subst (λ (x : ℕ). x < 2 ^ 15) (sym whole) (crc-below _))
+    ∙ crc-leading (bits 19 h ++ bits (8 * n) field)
 
 pub of-spec : {M : Type 1} → statement M
 of-spec =

@@ -3,25 +3,31 @@ ghost use mathlib.Core.Path.{_≡_};
 ghost use mathlib.Core.List.{List, _++_};
 ghost use Prim.Native.Nat.{ℕ, _*_, _%_, _^_, _≤_, _<_};
 ghost use Rattle.bits.specs.Rows.{bits};
-ghost use Rattle.frame.specs.Crc.{crc};
-ghost use Rattle.frame.specs.CrcFours.{crcList, crcBehind};
-ghost use Rattle.frame.specs.Header.{dataBytes};
-use crate::crc_list;
-use crate::fours;
-use crate::header;
+ghost use Rattle.crc.specs.Crc.{crc};
+ghost use Rattle.crc.specs.CrcFours.{crcList, crcBehind};
+ghost use Rattle.crc.specs.Dlc.{dataBytes};
+
+mod crc_list;
 
 // The CRC of a header and the data field that its DLC announces, each the lowest bits of a number.
 pub fn of_frame(header: u64, field: u64) -> u64
     ensures { λ r. ⌜ r ≡ crc (bits 19 header ++ bits (8 * dataBytes (header % 16)) field) ⌝ }
 {
-    let n = header::data_bytes(header % 16);
+    let n = data_bytes(header % 16);
     of(header % 0x80000, field, n)
 }
 
+// How many data bytes a DLC stands for.
+fn data_bytes(dlc: u64) -> usize
+    ensures { λ r. ⌜ (r ≡ dataBytes dlc) × (r ≤ 8) ⌝ }
+{
+    if 8 < dlc { 8 } else { dlc as usize }
+}
+
 // The CRC of a header of 19 bits and a data field of n bytes.
-pub(crate) fn of(header: u64, field: u64, n: usize) -> u64
+fn of(header: u64, field: u64, n: usize) -> u64
     requires { ⌜ (header < 2 ^ 19) × (n ≤ 8) ⌝ }
-    ensures { λ r. ⌜ (r ≡ crc (bits 19 header ++ bits (8 * n) field)) × (r < 2 ^ 15) ⌝ }
+    ensures { λ r. ⌜ r ≡ crc (bits 19 header ++ bits (8 * n) field) ⌝ }
 {
     let list = crc_list::list();
     // A bit 0 before the header changes nothing.
@@ -39,16 +45,16 @@ fn bring_down(list: &[u16; 16], register: u16, number: u64, count: usize) -> u16
     let mut left = count;
     while 0 < left {
         left -= 1;
-        register = divide(list, register, fours::at(number, left));
+        register = divide(list, register, number >> (4 * left));
     }
     register
 }
 
-// Four bits are brought down: the register's highest four go out, and what they and the new ones leave comes in.
-fn divide(list: &[u16; 16], register: u16, four: u64) -> u16
-    requires { ⌜ (now list ≡ crcList) × (four < 16) ⌝ }
-    ensures { λ r. ⌜ ((x : ℕ) → register ≡ x * 2 → r ≡ crcBehind x four * 2) ⌝ }
+// The lowest four bits of a number are brought down: the register's highest four go out, and what they and the new ones leave comes in.
+fn divide(list: &[u16; 16], register: u16, number: u64) -> u16
+    requires { ⌜ now list ≡ crcList ⌝ }
+    ensures { λ r. ⌜ ((x : ℕ) → register ≡ x * 2 → r ≡ crcBehind x (number % 16) * 2) ⌝ }
 {
-    let out = (register >> 12) ^ (four as u16);
+    let out = (register >> 12) ^ ((number % 16) as u16);
     list[out as usize] ^ (register << 4)
 }

@@ -1,9 +1,9 @@
--- `frame::header::data_bytes` meets its contract. Assumes nothing.
+-- `crc::data_bytes` meets its contract. Assumes nothing.
 use native.Mathlib.Omega.{arith}
 use borrow.Author.Tests.{lt-ltb, le-ltb}
-use Rattle.frame.specs.Header.{dataBytes}
-use Rattle.frame.proofs.header.data_bytes.Statement.{statement}
-use Rattle.frame.proofs.header.data_bytes.Tie as tie
+use Rattle.crc.specs.Dlc.{dataBytes}
+use Rattle.crc.proofs.data_bytes.Statement.{statement}
+use Rattle.crc.proofs.data_bytes.Tie as tie
 
 returns : tie.Need-returns
 unfolding dataBytes

@@ -1,6 +1,6 @@
 // The CRC of each four bits, moved up by one bit.
 ghost use mathlib.Core.Path.{_≡_};
-ghost use Rattle.frame.specs.CrcFours.{crcList};
+ghost use Rattle.crc.specs.CrcFours.{crcList};
 
 const CRCS: [u16; 16] = [
     0x0000, // 0000

@@ -3,7 +3,7 @@ use Prim.Native.Nat.{ℕ, _*_, _/_, _%_}
 use mathlib.Core.List.{List, map}
 use Rattle.bits.specs.Numbers.{numbersFrom}
 use Rattle.bits.specs.Rows.{bits}
-use Rattle.frame.specs.Crc.{xor, crc}
+use Rattle.crc.specs.Crc.{xor, crc}
 
 -- the CRC of each four bits, moved up by one bit
 unfoldable pub crcList : List ℕ

@@ -14,7 +14,7 @@ use native.Mathlib.Omega.{arith}
 use lib.Bits.{bitXor, differ, xor-step, xor-zero-r}
 use lib.Dec.{lit<}
 use lib.ListN.{replicate}
-use Rattle.frame.specs.Crc.{xor, divide, remainder, crc}
+use Rattle.crc.specs.Crc.{xor, divide, remainder, crc}
 
 differ-is : (x y : ℕ) → x < 2 → y < 2 → differ x y ≡ (x + y) % 2
 differ-is zero zero h g = refl
