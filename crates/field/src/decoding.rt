@@ -32,25 +32,25 @@ pub fn decode_number(n: usize, number: u64, payload: &mut [u8]) -> Answer
     if n == 0 {
         return Answer::Length(0);
     }
-    number_by_size(n, number, payload)
+    let list = short_list::list();
+    number_by_size(&list, n, number, payload)
 }
 
 // Decodes a field in a number: in each case the size is a number that the compiler knows. But for the empty one,
 // no field has another length.
-fn number_by_size(n: usize, number: u64, payload: &mut [u8]) -> Answer
-    requires { ⌜ 0 < n ⌝ }
+fn number_by_size(list: &[u8; 512], n: usize, number: u64, payload: &mut [u8]) -> Answer
+    requires { ⌜ (now list ≡ shortList) × (0 < n) ⌝ }
     ensures answer { λ r. ⌜ r ≡ decodeAnswer (fieldFrom n number) (length (now (payload .entry))) ⌝ }
     ensures memory { λ r. ⌜ now (payload .exit) ≡ after r (payloadOf (fieldFrom n number)) (now (payload .entry)) ⌝ }
 {
-    let list = short_list::list();
     match n {
-        2 => sized(&list, table::row_of(1), 1, number, payload),
-        3 => sized(&list, table::row_of(2), 2, number, payload),
-        4 => sized(&list, table::row_of(3), 3, number, payload),
-        5 => sized(&list, table::row_of(4), 4, number, payload),
-        6 => sized(&list, table::row_of(5), 5, number, payload),
-        7 => sized(&list, table::row_of(6), 6, number, payload),
-        8 => sized(&list, table::row_of(7), 7, number, payload),
+        2 => sized(list, 1, number, payload),
+        3 => sized(list, 2, number, payload),
+        4 => sized(list, 3, number, payload),
+        5 => sized(list, 4, number, payload),
+        6 => sized(list, 5, number, payload),
+        7 => sized(list, 6, number, payload),
+        8 => sized(list, 7, number, payload),
         _ => Answer::Refused(Refusal::FieldLength(0)),
     }
 }
@@ -64,32 +64,23 @@ pub(crate) fn by_size(field: &[u8], payload: &mut [u8]) -> Answer
     let list = short_list::list();
     let n = field.len();
     match n {
-        2 => loaded(&list, table::row_of(1), 1, field, payload),
-        3 => loaded(&list, table::row_of(2), 2, field, payload),
-        4 => loaded(&list, table::row_of(3), 3, field, payload),
-        5 => loaded(&list, table::row_of(4), 4, field, payload),
-        6 => loaded(&list, table::row_of(5), 5, field, payload),
-        7 => loaded(&list, table::row_of(6), 6, field, payload),
-        _ => loaded(&list, table::row_of(7), 7, field, payload),
+        2 => sized(&list, 1, bytes::load(field, 2), payload),
+        3 => sized(&list, 2, bytes::load(field, 3), payload),
+        4 => sized(&list, 3, bytes::load(field, 4), payload),
+        5 => sized(&list, 4, bytes::load(field, 5), payload),
+        6 => sized(&list, 5, bytes::load(field, 6), payload),
+        7 => sized(&list, 6, bytes::load(field, 7), payload),
+        _ => sized(&list, 7, bytes::load(field, 8), payload),
     }
 }
 
-// Decodes a field whose payload has `size` bytes.
-fn loaded(list: &[u8; 512], row: Row, size: usize, field: &[u8], payload: &mut [u8]) -> Answer
-    requires { ⌜ (now list ≡ shortList) × (row ≡ rowOf size) × (0 < size) × (size < 8) × (length (now field) ≡ size + 1) ⌝ }
-    ensures answer { λ r. ⌜ r ≡ decodeAnswer (now (field .entry)) (length (now (payload .entry))) ⌝ }
-    ensures memory { λ r. ⌜ now (payload .exit) ≡ after r (payloadOf (now (field .entry))) (now (payload .entry)) ⌝ }
-{
-    sized(list, row, size, bytes::load(field, size + 1), payload)
-}
-
-// The same of a field in a number.
-fn sized(list: &[u8; 512], row: Row, size: usize, number: u64, payload: &mut [u8]) -> Answer
-    requires { ⌜ (now list ≡ shortList) × (row ≡ rowOf size) × (0 < size) × (size < 8) ⌝ }
+// Decodes a field in a number whose payload has `size` bytes.
+fn sized(list: &[u8; 512], size: usize, number: u64, payload: &mut [u8]) -> Answer
+    requires { ⌜ (now list ≡ shortList) × (0 < size) × (size < 8) ⌝ }
     ensures answer { λ r. ⌜ r ≡ decodeAnswer (fieldFrom (size + 1) number) (length (now (payload .entry))) ⌝ }
     ensures memory { λ r. ⌜ now (payload .exit) ≡ after r (payloadOf (fieldFrom (size + 1) number)) (now (payload .entry)) ⌝ }
 {
-    match read(list, row, size, number, payload.len()) {
+    match read(list, table::row_of(size), size, number, payload.len()) {
         Reading::Payload(bytes) => {
             bytes::store(bytes, size, payload);
             Answer::Length(size)

@@ -41,21 +41,22 @@ fn by_size(payload: &[u8]) -> Coded
     let list = word_list::list();
     let size = payload.len();
     match size {
-        1 => sized(&list, table::row_of(1), payload, 1),
-        2 => sized(&list, table::row_of(2), payload, 2),
-        3 => sized(&list, table::row_of(3), payload, 3),
-        4 => sized(&list, table::row_of(4), payload, 4),
-        5 => sized(&list, table::row_of(5), payload, 5),
-        6 => sized(&list, table::row_of(6), payload, 6),
-        _ => sized(&list, table::row_of(7), payload, 7),
+        1 => sized(&list, payload, 1),
+        2 => sized(&list, payload, 2),
+        3 => sized(&list, payload, 3),
+        4 => sized(&list, payload, 4),
+        5 => sized(&list, payload, 5),
+        6 => sized(&list, payload, 6),
+        _ => sized(&list, payload, 7),
     }
 }
 
 // Codes a payload of `size` bytes.
-fn sized(list: &[u16; 256], row: Row, payload: &[u8], size: usize) -> Coded
-    requires { ⌜ (now list ≡ wordList) × (row ≡ rowOf size) × (length (now payload) ≡ size) × (size < 8) ⌝ }
+fn sized(list: &[u16; 256], payload: &[u8], size: usize) -> Coded
+    requires { ⌜ (now list ≡ wordList) × (length (now payload) ≡ size) × (size < 8) ⌝ }
     ensures { λ r. ⌜ r ≡ coded (now (payload .entry)) ⌝ }
 {
+    let row = table::row_of(size);
     let number = field_number(list, row, payload, size);
     Coded::Field(row.bytes, number)
 }

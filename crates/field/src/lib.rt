@@ -17,6 +17,7 @@ pub mod table;
 
 use refusals::Answer;
 use refusals::Refusal;
+use words::word_list;
 
 // Codes a payload: the length of its field, which stands at the start of `field`. Refused with 1 or 2.
 pub fn encode(payload: &[u8], field: &mut [u8]) -> Answer
@@ -30,7 +31,8 @@ pub fn encode(payload: &[u8], field: &mut [u8]) -> Answer
     if size == 0 {
         return Answer::Length(0);
     }
-    storing::by_size(payload, field)
+    let list = word_list::list();
+    storing::by_size(&list, payload, field)
 }
 
 // Decodes a field: the length of its payload, which stands at the start of `payload`. Refused with 2 to 7.

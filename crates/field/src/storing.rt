@@ -4,42 +4,39 @@ ghost use Prim.Native.Nat.{_<_};
 ghost use lib.ListN.{length};
 ghost use Rattle.refusals.specs.After.{after};
 ghost use Rattle.words.specs.Lists.{wordList};
-ghost use Rattle.field.specs.Table.{rowOf};
 ghost use Rattle.field.specs.Field.{fieldOf};
 ghost use Rattle.field.specs.Encode.{encodeAnswer};
 use crate::bytes;
 use crate::encoding;
 use crate::table;
-use crate::table::Row;
 use refusals::Answer;
 use refusals::Refusal;
-use words::word_list;
 
 // Codes a payload of 1 to 7 bytes: in each case the size is a number that the compiler knows.
-pub(crate) fn by_size(payload: &[u8], field: &mut [u8]) -> Answer
-    requires { ⌜ (0 < length (now payload)) × (length (now payload) < 8) ⌝ }
+pub(crate) fn by_size(list: &[u16; 256], payload: &[u8], field: &mut [u8]) -> Answer
+    requires { ⌜ (now list ≡ wordList) × (0 < length (now payload)) × (length (now payload) < 8) ⌝ }
     ensures answer { λ r. ⌜ r ≡ encodeAnswer (now (payload .entry)) (length (now (field .entry))) ⌝ }
     ensures memory { λ r. ⌜ now (field .exit) ≡ after r (fieldOf (now (payload .entry))) (now (field .entry)) ⌝ }
 {
-    let list = word_list::list();
     let size = payload.len();
     match size {
-        1 => sized(&list, table::row_of(1), payload, 1, field),
-        2 => sized(&list, table::row_of(2), payload, 2, field),
-        3 => sized(&list, table::row_of(3), payload, 3, field),
-        4 => sized(&list, table::row_of(4), payload, 4, field),
-        5 => sized(&list, table::row_of(5), payload, 5, field),
-        6 => sized(&list, table::row_of(6), payload, 6, field),
-        _ => sized(&list, table::row_of(7), payload, 7, field),
+        1 => sized(list, payload, 1, field),
+        2 => sized(list, payload, 2, field),
+        3 => sized(list, payload, 3, field),
+        4 => sized(list, payload, 4, field),
+        5 => sized(list, payload, 5, field),
+        6 => sized(list, payload, 6, field),
+        _ => sized(list, payload, 7, field),
     }
 }
 
 // Codes a payload of `size` bytes.
-fn sized(list: &[u16; 256], row: Row, payload: &[u8], size: usize, field: &mut [u8]) -> Answer
-    requires { ⌜ (now list ≡ wordList) × (row ≡ rowOf size) × (length (now payload) ≡ size) × (size < 8) ⌝ }
+fn sized(list: &[u16; 256], payload: &[u8], size: usize, field: &mut [u8]) -> Answer
+    requires { ⌜ (now list ≡ wordList) × (length (now payload) ≡ size) × (size < 8) ⌝ }
     ensures answer { λ r. ⌜ r ≡ encodeAnswer (now (payload .entry)) (length (now (field .entry))) ⌝ }
     ensures memory { λ r. ⌜ now (field .exit) ≡ after r (fieldOf (now (payload .entry))) (now (field .entry)) ⌝ }
 {
+    let row = table::row_of(size);
     let n = row.bytes;
     if field.len() < n {
         return Answer::Refused(Refusal::RoomShort);

@@ -12,6 +12,9 @@ returns c = (sym (encode-long _ _ (c .if1 .taken)), refl)
 returns-2 : tie.Need-returns-2
 returns-2 c = let empty = encode-empty _ _ (c .if2 .taken) in (sym (empty .0), rw (empty .1))
 
+list-requires : tie.Need-list-requires
+list-requires c κs = search needs
+
 by-size-requires : tie.Need-by-size-requires
 by-size-requires c κs = search needs
 
@@ -22,4 +25,4 @@ returns-3 : tie.Need-returns-3
 returns-3 c = search needs
 
 pub encode-spec : {M : Type 1} → statement M
-encode-spec = tie.close (tie.spec returns returns-2 by-size-requires same-length returns-3)
+encode-spec = tie.close (tie.spec returns returns-2 list-requires by-size-requires same-length returns-3)

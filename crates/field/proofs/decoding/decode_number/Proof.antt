@@ -9,6 +9,9 @@ use Rattle.field.proofs.decoding.decode_number.Tie as tie
 returns : tie.Need-returns
 returns c = let empty = decode-empty _ _ (from-length _ _ ∙ c .if1 .taken) in (sym (empty .0), rw (empty .1))
 
+list-requires : tie.Need-list-requires
+list-requires c κs = search needs
+
 number-by-size-requires : tie.Need-number-by-size-requires
 number-by-size-requires c κs = search needs
 
@@ -19,4 +22,4 @@ returns-2 : tie.Need-returns-2
 returns-2 c = search needs
 
 pub decode-number-spec : {M : Type 1} → statement M
-decode-number-spec = tie.close (tie.spec returns number-by-size-requires same-length returns-2)
+decode-number-spec = tie.close (tie.spec returns list-requires number-by-size-requires same-length returns-2)

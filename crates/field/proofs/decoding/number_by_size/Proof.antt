@@ -16,47 +16,23 @@ use Rattle.field.proofs.DecodeAnswers.{decode-one, decode-long}
 use Rattle.field.proofs.decoding.number_by_size.Statement.{statement}
 use Rattle.field.proofs.decoding.number_by_size.Tie as tie
 
-list-requires : tie.Need-list-requires
-list-requires c κs = search needs
-
-row-of-requires : tie.Need-row-of-requires
-row-of-requires c κs = search needs
-
 sized-requires : tie.Need-sized-requires
 sized-requires c κs = search needs
-
-row-of-requires-2 : tie.Need-row-of-requires-2
-row-of-requires-2 c κs = search needs
 
 sized-requires-2 : tie.Need-sized-requires-2
 sized-requires-2 c κs = search needs
 
-row-of-requires-3 : tie.Need-row-of-requires-3
-row-of-requires-3 c κs = search needs
-
 sized-requires-3 : tie.Need-sized-requires-3
 sized-requires-3 c κs = search needs
-
-row-of-requires-4 : tie.Need-row-of-requires-4
-row-of-requires-4 c κs = search needs
 
 sized-requires-4 : tie.Need-sized-requires-4
 sized-requires-4 c κs = search needs
 
-row-of-requires-5 : tie.Need-row-of-requires-5
-row-of-requires-5 c κs = search needs
-
 sized-requires-5 : tie.Need-sized-requires-5
 sized-requires-5 c κs = search needs
 
-row-of-requires-6 : tie.Need-row-of-requires-6
-row-of-requires-6 c κs = search needs
-
 sized-requires-6 : tie.Need-sized-requires-6
 sized-requires-6 c κs = search needs
-
-row-of-requires-7 : tie.Need-row-of-requires-7
-row-of-requires-7 c κs = search needs
 
 sized-requires-7 : tie.Need-sized-requires-7
 sized-requires-7 c κs = search needs
@@ -66,7 +42,7 @@ same-length c = search needs
 
 returns : tie.Need-returns
 returns c =
-    let n : c .before .before .before .before .before .before .before .before .before .args .n ≡ 2 = omega arith in
+    let n : c .before .before .before .before .before .before .args .n ≡ 2 = omega arith in
     rw n (c .before .before .sized .ensures)
 
 same-length-2 : tie.Need-same-length-2
@@ -74,7 +50,7 @@ same-length-2 c = search needs
 
 returns-2 : tie.Need-returns-2
 returns-2 c =
-    let n : c .before .before .before .before .before .before .before .before .before .args .n ≡ 3 = omega arith in
+    let n : c .before .before .before .before .before .before .args .n ≡ 3 = omega arith in
     rw n (c .before .before .sized2 .ensures)
 
 same-length-3 : tie.Need-same-length-3
@@ -82,7 +58,7 @@ same-length-3 c = search needs
 
 returns-3 : tie.Need-returns-3
 returns-3 c =
-    let n : c .before .before .before .before .before .before .before .before .before .args .n ≡ 4 = omega arith in
+    let n : c .before .before .before .before .before .before .args .n ≡ 4 = omega arith in
     rw n (c .before .before .sized3 .ensures)
 
 same-length-4 : tie.Need-same-length-4
@@ -90,7 +66,7 @@ same-length-4 c = search needs
 
 returns-4 : tie.Need-returns-4
 returns-4 c =
-    let n : c .before .before .before .before .before .before .before .before .before .args .n ≡ 5 = omega arith in
+    let n : c .before .before .before .before .before .before .args .n ≡ 5 = omega arith in
     rw n (c .before .before .sized4 .ensures)
 
 same-length-5 : tie.Need-same-length-5
@@ -98,7 +74,7 @@ same-length-5 c = search needs
 
 returns-5 : tie.Need-returns-5
 returns-5 c =
-    let n : c .before .before .before .before .before .before .before .before .before .args .n ≡ 6 = omega arith in
+    let n : c .before .before .before .before .before .before .args .n ≡ 6 = omega arith in
     rw n (c .before .before .sized5 .ensures)
 
 same-length-6 : tie.Need-same-length-6
@@ -106,7 +82,7 @@ same-length-6 c = search needs
 
 returns-6 : tie.Need-returns-6
 returns-6 c =
-    let n : c .before .before .before .before .before .before .before .before .before .args .n ≡ 7 = omega arith in
+    let n : c .before .before .before .before .before .before .args .n ≡ 7 = omega arith in
     rw n (c .before .before .sized6 .ensures)
 
 same-length-7 : tie.Need-same-length-7
@@ -114,7 +90,7 @@ same-length-7 c = search needs
 
 returns-7 : tie.Need-returns-7
 returns-7 c =
-    let n : c .before .before .before .before .before .before .before .before .before .args .n ≡ 8 = omega arith in
+    let n : c .before .before .before .before .before .before .args .n ≡ 8 = omega arith in
     rw n (c .before .before .sized7 .ensures)
 
 -- a length that no field has
@@ -131,9 +107,9 @@ three-less n k few a b c = omega arith
 
 returns-8 : tie.Need-returns-8
 returns-8 c =
-    let n = c .before .before .before .args .n in
+    let n = c .before .before .args .n in
     let rest = c .match .rest in
-    let some = c .before .before .before .pre in
+    let some = c .before .before .pre .1 in
     (no-field n _ _ (λ few. only n some (three-less n 2 (three-less n 5 few (rest .1) (rest .0 .1) (rest .0 .0 .1)) (rest .0 .0 .0 .1) (rest .0 .0 .0 .0 .1) (rest .0 .0 .0 .0 .0 .1)) (rest .0 .0 .0 .0 .0 .0 .1)), refl)
   where
     only : (n : ℕ) → 0 < n → n ≤ 2 → (n ≡ 2 → ⊥) → n ≡ 1
@@ -143,20 +119,12 @@ pub number-by-size-spec : {M : Type 1} → statement M
 number-by-size-spec =
     tie.close
     (tie.spec
-    list-requires
-    row-of-requires
     sized-requires
-    row-of-requires-2
     sized-requires-2
-    row-of-requires-3
     sized-requires-3
-    row-of-requires-4
     sized-requires-4
-    row-of-requires-5
     sized-requires-5
-    row-of-requires-6
     sized-requires-6
-    row-of-requires-7
     sized-requires-7
     same-length
     returns

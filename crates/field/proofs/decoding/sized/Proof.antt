@@ -18,6 +18,9 @@ use Rattle.field.proofs.Stored.{stored}
 use Rattle.field.proofs.decoding.sized.Statement.{statement}
 use Rattle.field.proofs.decoding.sized.Tie as tie
 
+row-of-requires : tie.Need-row-of-requires
+row-of-requires c κs = search needs
+
 read-requires : tie.Need-read-requires
 read-requires c κs = search needs
 
@@ -26,23 +29,23 @@ enum-known-bytes c = search needs
 
 -- the field, and what was read of it, in its case
 abbrev field : tie.After-read → List ℕ
-field c = fieldFrom (c .before .before .args .size + 1) (c .before .before .args .number)
+field c = fieldFrom (c .before .before .before .args .size + 1) (c .before .before .before .args .number)
 
 read : (c : tie.After-read) (r : Reading) → c .read .result ≡ r
-    → Says r (decodeAnswer (field c) (length (c .before .before .args .payload .now))) (payloadOf (field c))
+    → Says r (decodeAnswer (field c) (length (c .before .before .before .args .payload .now))) (payloadOf (field c))
 read c r e =
-    let answer = decodeAnswer (field c) (length (c .before .before .args .payload .now)) in
+    let answer = decodeAnswer (field c) (length (c .before .before .before .args .payload .now)) in
     subst (λ (x : Reading). Says x answer (payloadOf (field c))) e (c .read .ensures)
 
 -- what was read of an accepted field, and how many bytes its payload has
 accepted-read : (c : tie.After-bytes) →
     let before = c .before .before in
-    let answer = decodeAnswer (field before) (length (before .before .before .args .payload .now)) in
+    let answer = decodeAnswer (field before) (length (before .before .before .before .args .payload .now)) in
     Says (Payload (c .bytes .given .0 .0)) answer (payloadOf (field before))
 accepted-read c = read (c .before .before) _ (c .bytes .given .1)
 
-long : (c : tie.After-read) → c .before .before .args .size ≡ length (payloadOf (field c))
-long c = omega (arith, from-length (c .before .before .args .size + 1) (c .before .before .args .number), payload-length (field c))
+long : (c : tie.After-read) → c .before .before .before .args .size ≡ length (payloadOf (field c))
+long c = omega (arith, from-length (c .before .before .before .args .size + 1) (c .before .before .before .args .number), payload-length (field c))
 
 store-requires : tie.Need-store-requires
 store-requires c κs =
@@ -71,6 +74,7 @@ pub sized-spec : {M : Type 1} → statement M
 sized-spec =
     tie.close
     (tie.spec
+    row-of-requires
     read-requires
     enum-known-bytes
     store-requires

@@ -13,17 +13,21 @@ use Rattle.field.proofs.FieldBits.{field-length, bits-of-field}
 use Rattle.field.proofs.encoding.sized.Statement.{statement}
 use Rattle.field.proofs.encoding.sized.Tie as tie
 
+row-of-requires : tie.Need-row-of-requires
+row-of-requires c κs = search needs
+
 field-number-requires : tie.Need-field-number-requires
 field-number-requires c κs = search needs
 
 returns : tie.Need-returns
 returns c =
-    let start = c .before .before in
+    let row = c .before in
+    let start = row .before .before in
     let short : length (start .args .payload .now) ≤ 7 = omega arith in
     ap₂ Field
-    (ap (λ (r : Row). r .bytes) (start .pre .1) ∙ ap fieldBytes (sym (start .pre .2)) ∙ sym (field-length _))
+    (ap (λ (r : Row). r .bytes) (row .row-of .ensures) ∙ ap fieldBytes (sym (start .pre .1)) ∙ sym (field-length _))
     (c .field-number .ensures ∙ ap (number 0) (sym (bits-of-field _ short)))
     ∙ sym (coded-short _ short)
 
 pub sized-spec : {M : Type 1} → statement M
-sized-spec = tie.close (tie.spec field-number-requires returns)
+sized-spec = tie.close (tie.spec row-of-requires field-number-requires returns)

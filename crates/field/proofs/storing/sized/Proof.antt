@@ -19,22 +19,25 @@ use Rattle.field.proofs.storing.sized.Tie as tie
 short : (c : tie.Start) → length (c .args .payload .now) ≤ 7
 short c = omega arith
 
+row-of-requires : tie.Need-row-of-requires
+row-of-requires c κs = search needs
+
 -- the row's bytes
-bytes : (c : tie.Start) → c .args .row .bytes ≡ fieldBytes (length (c .args .payload .now))
-bytes c = ap (λ (r : Row). r .bytes) (c .pre .1) ∙ ap fieldBytes (sym (c .pre .2))
+bytes : (c : tie.After-row-of) → c .row-of .result .bytes ≡ fieldBytes (length (c .before .before .before .args .payload .now))
+bytes c = ap (λ (r : Row). r .bytes) (c .row-of .ensures) ∙ ap fieldBytes (sym (c .before .before .before .pre .1))
 
 returns : tie.Need-returns
 returns c =
-    let start = c .before .before .before in
-    (sym (encode-short _ _ (short start) (rw (bytes start) at (c .if1 .taken))), refl)
+    let row = c .before in
+    (sym (encode-short _ _ (short (row .before .before .before)) (rw (bytes row) at (c .if1 .taken))), refl)
 
 field-number-requires : tie.Need-field-number-requires
 field-number-requires c κs = search needs
 
 store-requires : tie.Need-store-requires
 store-requires c κs =
-    let start = c .before .before .before .before .before in
-    (omega (arith, bytes start, fieldBytes-few _ (short start)), search needs)
+    let row = c .before .before .before in
+    (omega (arith, bytes row, fieldBytes-few _ (short (row .before .before .before))), search needs)
 
 same-length : tie.Need-same-length
 same-length c = search needs
@@ -42,14 +45,15 @@ same-length c = search needs
 returns-2 : tie.Need-returns-2
 returns-2 c =
     let counted = c .before .before .before .before in
-    let start = counted .before .before .before .before in (
-      ap Length (bytes start) ∙ sym (encode-accepts _ _ (short start) (rw (bytes start) at (counted .before .if1 .left))),
+    let row = counted .before .before in
+    let few = short (row .before .before .before) in (
+      ap Length (bytes row) ∙ sym (encode-accepts _ _ few (rw (bytes row) at (counted .before .if1 .left))),
       c .before .before .store .ensures
           ∙ stored (fieldOf _) _ _ _ (field-below _)
-          (counted .field-number .ensures ∙ ap (number 0) (sym (bits-of-field _ (short start))))
-          (bytes start ∙ sym (field-length _)),
+          (counted .field-number .ensures ∙ ap (number 0) (sym (bits-of-field _ few)))
+          (bytes row ∙ sym (field-length _)),
     )
 
 pub sized-spec : {M : Type 1} → statement M
 sized-spec =
-    tie.close (tie.spec returns field-number-requires store-requires same-length returns-2)
+    tie.close (tie.spec row-of-requires returns field-number-requires store-requires same-length returns-2)
