@@ -5,6 +5,7 @@ pub mod Rows
 pub mod Fours
 pub mod Same
 pub mod Packing
+pub mod Loading
 pub mod Filling
 pub mod Rising
 pub mod Stuffing

@@ -4,6 +4,7 @@ pub mod Below
 pub mod Rows
 pub mod Fours
 pub mod Packing
+pub mod Loading
 pub mod Neighbours
 pub mod Stuffing
 pub mod Calm

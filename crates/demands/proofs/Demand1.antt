@@ -4,7 +4,7 @@
 -- they ask of a caller and what they tell it. Inputs i, and the parameters s after the call, are in the order of the signature: .0 the
 -- first, .1 .0 the second. That each entry ends, and meets its contract, is in Meets; what it checks is in Refusals. Assumes nothing.
 --     c-encode-settled and five more        the calls for C
---     encode-settled and twenty-two more    the calls in Rattle
+--     encode-settled and twenty-six more    the calls in Rattle
 use mathlib.Core.Path.{_≡_, refl, ap, subst, _∙_}
 use mathlib.Core.List.{List}
 use Prim.Native.Nat.{ℕ, _<_, _^_}
@@ -20,7 +20,7 @@ use Rattle.refusals.specs.declared.Answer.the-variants.{Length, Refused}
 use Rattle.refusals.specs.After.{after}
 use Rattle.field.specs.Field.{fieldOf}
 use Rattle.field.specs.Encode.{encodeAnswer}
-use Rattle.field.specs.Decode.{decodeAnswer, payloadOf}
+use Rattle.decoding.specs.Decode.{decodeAnswer, payloadOf}
 use Rattle.frame.specs.Answers.{payloadLine, makeAnswer}
 use Rattle.line.specs.Read.{readAnswer, payloadIn}
 use Rattle.line.specs.Read as line
@@ -39,10 +39,12 @@ use Rattle.prushgoli.proofs.prushgoli_frame_length.Reads as c-frame-length
 use Rattle.prushgoli.proofs.prushgoli_frame_bounds.Reads as c-frame-bounds
 use Rattle.prushgoli.proofs.prushgoli_read_line.Reads as c-read-line
 use Rattle.field.proofs.encode.Reads as encode
-use Rattle.field.proofs.decode.Reads as decode
 use Rattle.field.proofs.encoding.code.Reads as code
-use Rattle.field.proofs.decoding.decode_number.Reads as decode-number
+use Rattle.field.proofs.padding.number_of.Reads as padding-number
 use Rattle.field.proofs.table.rows.Reads as rows
+use Rattle.field.proofs.table.row_of.Reads as row-of
+use Rattle.decoding.proofs.decode.Reads as decode
+use Rattle.decoding.proofs.decode_number.Reads as decode-number
 use Rattle.frame.proofs.make_frame.Reads as make-frame
 use Rattle.frame.proofs.frame_length.Reads as frame-length
 use Rattle.frame.proofs.frame_bounds.Reads as frame-bounds
@@ -57,6 +59,8 @@ use Rattle.words.proofs.entry_in.Reads as entry-in
 use Rattle.words.proofs.is_escape.Reads as is-escape
 use Rattle.words.proofs.reverse_list.list.Reads as reverse-list
 use Rattle.words.proofs.short_list.list.Reads as short-list
+use Rattle.bits.proofs.bytes.load.Reads as load
+use Rattle.bits.proofs.bytes.store.Reads as store
 use Rattle.refusals.proofs.Refusal.number.Reads as number
 use Rattle.refusals.proofs.Refusal.place.Reads as place
 use Rattle.records.proofs.record_at.Reads as record-at
@@ -136,6 +140,12 @@ decode-number-settled κs = settled-with (λ i. tt) (λ i a s says. says) (λ i 
 pub rows-settled : (κs : Lfts 0) → Settled (rows.Asked κs) (rows.Learnt κs)
 rows-settled κs = settled (λ i. tt) (λ i a s says. says)
 
+pub row-of-settled : (κs : Lfts 0) → Settled (row-of.Asked κs) (row-of.Learnt κs)
+row-of-settled κs = settled (λ i. tt) (λ i a s says. says)
+
+pub padding-number-settled : (κs : Lfts 0) → Settled (padding-number.Asked κs) (padding-number.Learnt κs)
+padding-number-settled κs = settled (λ i. tt) (λ i a s says. says)
+
 -- ---- the frame and its line
 
 pub make-frame-settled : (κs : Lfts 2)
@@ -189,6 +199,16 @@ number-settled κs = settled (λ i. tt) (λ i a s says. says)
 
 pub place-settled : (κs : Lfts 0) → Settled (place.Asked κs) (place.Learnt κs)
 place-settled κs = settled (λ i. tt) (λ i a s says. says)
+
+-- ---- bytes as one number
+
+pub load-settled : (κs : Lfts 1) → Settled (load.Asked κs) (load.Learnt κs)
+load-settled κs = settled (λ i. tt) (λ i a s says. says)
+
+-- it has no answer, and so no refusal
+pub store-settled : (κs : Lfts 1)
+    → SettledWith (store.Asked κs) (store.Learnt κs) (λ a. 0) (λ i. now (i .1 .1 .0)) (λ s. now (s .1 .1 .0))
+store-settled κs = settled-with (λ i. tt) (λ i a s says. (refl, says)) (λ i a is refused. absurd (omega (arith, refused)))
 
 -- ---- traces
 

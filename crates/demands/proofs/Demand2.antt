@@ -36,10 +36,10 @@ use Rattle.field.specs.Sizes.{fieldBytes, breakBit, paddingBits}
 use Rattle.field.specs.Padding.{padding}
 use Rattle.field.specs.Field.{fieldBits, fieldOf}
 use Rattle.field.specs.Encode.{encodeAnswer}
-use Rattle.field.specs.Decode.{decodeAnswer, payloadOf}
 use Rattle.field.proofs.FieldBits.{field-length, bits-of-field}
 use Rattle.field.proofs.EncodeAnswers.{encode-accepts}
-use Rattle.field.proofs.RoundTrip.{payload-of-field, decode-encode, field-of-payload}
+use Rattle.decoding.specs.Decode.{decodeAnswer, payloadOf}
+use Rattle.decoding.proofs.RoundTrip.{payload-of-field, decode-encode, field-of-payload}
 use Rattle.crc.specs.Crc.{crc}
 use Rattle.frame.specs.Header.{header}
 use Rattle.frame.specs.Answers.{payloadLine, makeAnswer}

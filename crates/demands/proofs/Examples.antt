@@ -12,8 +12,8 @@ use Rattle.words.specs.Words.{words, wordOf}
 use Rattle.words.specs.Symbols.{placeIn, symbolOf}
 use Rattle.field.specs.Padding.{padding}
 use Rattle.field.specs.Field.{fieldBits, fieldOf}
-use Rattle.field.specs.Parts.{breakPart, wordsPart, paddingPart}
-use Rattle.field.specs.Decode.{decodeAnswer}
+use Rattle.decoding.specs.Parts.{breakPart, wordsPart, paddingPart}
+use Rattle.decoding.specs.Decode.{decodeAnswer}
 use Rattle.crc.specs.Crc.{xor, divide, remainder, crc}
 use Rattle.frame.specs.Header.{header}
 use Rattle.frame.specs.Line.{crcBits, stuffedRow, lineOf, frameLine}

@@ -13,7 +13,7 @@ use Rattle.refusals.specs.Table.{answerNumbers}
 use Rattle.refusals.specs.declared.Answer.{Answer}
 use Rattle.refusals.specs.declared.Answer.the-variants.{Length}
 use Rattle.field.specs.Encode.{encodeAnswer}
-use Rattle.field.specs.Decode.{decodeAnswer}
+use Rattle.decoding.specs.Decode.{decodeAnswer}
 use Rattle.frame.specs.Answers.{makeAnswer, lengthAnswer, boundsAnswer, boundsNumbers}
 use Rattle.line.specs.Read.{readAnswer, lineNumbers}
 use Rattle.prushgoli.specs.Packing.{lowPart, refusalPart, answerTold, boundsTold, lineTold}

@@ -1,7 +1,7 @@
 -- Demand 1, every public call ends with an answer: each meets its contract, whatever the inputs. `statement` is the toolchain's: a call
 -- that is handed what its types say is safe, ends, and leaves what its clauses say. Assumes nothing.
 --     c-encode-meets and five more        the calls for C
---     encode-meets and twenty-two more    the calls in Rattle
+--     encode-meets and twenty-six more    the calls in Rattle
 use Rattle.prushgoli.proofs.prushgoli_encode.Met as c-encode
 use Rattle.prushgoli.proofs.prushgoli_encode.Statement as c-encode-contract
 use Rattle.prushgoli.proofs.prushgoli_decode.Met as c-decode
@@ -16,14 +16,18 @@ use Rattle.prushgoli.proofs.prushgoli_read_line.Met as c-read-line
 use Rattle.prushgoli.proofs.prushgoli_read_line.Statement as c-read-line-contract
 use Rattle.field.proofs.encode.Met as encode
 use Rattle.field.proofs.encode.Statement as encode-contract
-use Rattle.field.proofs.decode.Met as decode
-use Rattle.field.proofs.decode.Statement as decode-contract
 use Rattle.field.proofs.encoding.code.Met as code
 use Rattle.field.proofs.encoding.code.Statement as code-contract
-use Rattle.field.proofs.decoding.decode_number.Met as decode-number
-use Rattle.field.proofs.decoding.decode_number.Statement as decode-number-contract
+use Rattle.field.proofs.padding.number_of.Met as padding-number
+use Rattle.field.proofs.padding.number_of.Statement as padding-number-contract
 use Rattle.field.proofs.table.rows.Met as rows
 use Rattle.field.proofs.table.rows.Statement as rows-contract
+use Rattle.field.proofs.table.row_of.Met as row-of
+use Rattle.field.proofs.table.row_of.Statement as row-of-contract
+use Rattle.decoding.proofs.decode.Met as decode
+use Rattle.decoding.proofs.decode.Statement as decode-contract
+use Rattle.decoding.proofs.decode_number.Met as decode-number
+use Rattle.decoding.proofs.decode_number.Statement as decode-number-contract
 use Rattle.frame.proofs.make_frame.Met as make-frame
 use Rattle.frame.proofs.make_frame.Statement as make-frame-contract
 use Rattle.frame.proofs.frame_length.Met as frame-length
@@ -52,6 +56,10 @@ use Rattle.words.proofs.reverse_list.list.Met as reverse-list
 use Rattle.words.proofs.reverse_list.list.Statement as reverse-list-contract
 use Rattle.words.proofs.short_list.list.Met as short-list
 use Rattle.words.proofs.short_list.list.Statement as short-list-contract
+use Rattle.bits.proofs.bytes.load.Met as load
+use Rattle.bits.proofs.bytes.load.Statement as load-contract
+use Rattle.bits.proofs.bytes.store.Met as store
+use Rattle.bits.proofs.bytes.store.Statement as store-contract
 use Rattle.refusals.proofs.Refusal.number.Met as number
 use Rattle.refusals.proofs.Refusal.number.Statement as number-contract
 use Rattle.refusals.proofs.Refusal.place.Met as place
@@ -94,6 +102,12 @@ decode-number-meets = decode-number.met
 pub rows-meets : {M : Type 1} → rows-contract.statement M
 rows-meets = rows.met
 
+pub row-of-meets : {M : Type 1} → row-of-contract.statement M
+row-of-meets = row-of.met
+
+pub padding-number-meets : {M : Type 1} → padding-number-contract.statement M
+padding-number-meets = padding-number.met
+
 pub make-frame-meets : {M : Type 1} → make-frame-contract.statement M
 make-frame-meets = make-frame.met
 
@@ -135,6 +149,12 @@ reverse-list-meets = reverse-list.met
 
 pub short-list-meets : {M : Type 1} → short-list-contract.statement M
 short-list-meets = short-list.met
+
+pub load-meets : {M : Type 1} → load-contract.statement M
+load-meets = load.met
+
+pub store-meets : {M : Type 1} → store-contract.statement M
+store-meets = store.met
 
 pub number-meets : {M : Type 1} → number-contract.statement M
 number-meets = number.met

@@ -32,12 +32,12 @@ use Rattle.words.specs.declared.Symbol.{Symbol}
 use Rattle.words.specs.declared.Symbol.the-variants.{Byte, Escape, Nothing}
 use Rattle.field.specs.Sizes.{fieldBytes, breakBit, paddingBits}
 use Rattle.field.specs.Padding.{padding}
-use Rattle.field.specs.Parts.{sizeOf, breakPart, paddingPart, symbolsOf}
 use Rattle.field.specs.Encode.{encodeAnswer}
-use Rattle.field.specs.Decode.{decodeAnswer}
-use Rattle.field.proofs.FieldParts.{LengthAllowed}
 use Rattle.field.proofs.EncodeAnswers.{encode-long, encode-short}
-use Rattle.field.proofs.DecodeAnswers.{Begun, decode-long, decode-one, decode-short, decode-broken, decode-escape, decode-no-word, decode-padding}
+use Rattle.decoding.specs.Parts.{sizeOf, breakPart, paddingPart, symbolsOf}
+use Rattle.decoding.specs.Decode.{decodeAnswer}
+use Rattle.decoding.proofs.FieldParts.{LengthAllowed}
+use Rattle.decoding.proofs.DecodeAnswers.{Begun, decode-long, decode-one, decode-short, decode-broken, decode-escape, decode-no-word, decode-padding}
 use Rattle.frame.specs.Line.{frameLine}
 use Rattle.frame.specs.Answers.{makeAnswer, lengthAnswer, boundsAnswer, boundsNumbers}
 use Rattle.frame.proofs.FrameAnswers.{make-identifier, make-long, make-short, length-identifier, length-long}

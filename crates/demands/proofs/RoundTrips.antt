@@ -19,9 +19,9 @@ use Rattle.refusals.specs.After.{after}
 use Rattle.refusals.specs.declared.Answer.{Answer}
 use Rattle.field.specs.Sizes.{fieldBytes}
 use Rattle.field.specs.Field.{fieldOf}
-use Rattle.field.specs.Decode.{decodeAnswer, payloadOf}
 use Rattle.field.proofs.FieldBits.{field-length}
-use Rattle.field.proofs.RoundTrip.{payload-of-field, decode-encode}
+use Rattle.decoding.specs.Decode.{decodeAnswer, payloadOf}
+use Rattle.decoding.proofs.RoundTrip.{payload-of-field, decode-encode}
 use Rattle.frame.specs.Answers.{payloadLine}
 use Rattle.line.specs.Ack.{withAck}
 use Rattle.line.specs.Read.{readAnswer, payloadIn, answerOf}

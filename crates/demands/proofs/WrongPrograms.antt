@@ -13,8 +13,8 @@ use lib.ListN.{length, take}
 use Rattle.bits.specs.Below.{Below}
 use Rattle.field.specs.Sizes.{fieldBytes}
 use Rattle.field.specs.Field.{fieldOf}
-use Rattle.field.specs.Decode.{payloadOf}
-use Rattle.field.proofs.RoundTrip.{payload-of-field}
+use Rattle.decoding.specs.Decode.{payloadOf}
+use Rattle.decoding.proofs.RoundTrip.{payload-of-field}
 use Rattle.frame.specs.Answers.{payloadLine}
 use Rattle.frame.proofs.FrameAnswers.{length-accepts}
 use Rattle.prushgoli.specs.Packing.{lowPart, refusalPart}

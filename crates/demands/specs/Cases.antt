@@ -6,7 +6,7 @@ use lib.ListN.{length}
 use Rattle.bits.specs.Packing.{unpacked}
 use Rattle.refusals.specs.Table.{answerNumbers}
 use Rattle.field.specs.Field.{fieldOf}
-use Rattle.field.specs.Decode.{decodeAnswer}
+use Rattle.decoding.specs.Decode.{decodeAnswer}
 use Rattle.crc.specs.Crc.{crc}
 use Rattle.frame.specs.Header.{header}
 use Rattle.frame.specs.StuffBits.{afterHeader, afterCrc}

@@ -2,15 +2,9 @@ pub mod Sizes
 pub mod TableRows
 pub mod PaddingBits
 pub mod FieldBits
-pub mod Stored
 pub mod Coded
-pub mod FieldParts
 pub mod EncodeAnswers
-pub mod DecodeAnswers
-pub mod BodyRead
 pub mod Places
-pub mod Accepted
-pub mod RoundTrip
 pub mod Lengths
 pub mod FieldCalm
 pub mod Small

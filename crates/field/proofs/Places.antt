@@ -2,26 +2,21 @@
 --     break-in-place       coding puts first the break bit, the complement of the lowest bit of the DLC
 --     word-in-place        then the words: that of byte i in the nine bits from 1 + 9 i on
 --     padding-in-place     then padding, 0, 1, 0, 1 and so on
---     break-looked-at, words-looked-at, padding-looked-at    decoding looks for them in the same places, whatever stands there
-use mathlib.Core.Path.{_≡_, refl, sym, ap, _∙_}
+use mathlib.Core.Path.{_≡_, sym, ap, _∙_}
 use mathlib.Core.List.{List, [], _∷_, map}
 use Prim.Native.Nat.{ℕ, _+_, _-_, _*_, _%_, _<_}
 use native.Mathlib.Nat.{zero-add, not-suc-le-zero}
 use native.Mathlib.Omega.{arith}
 use lib.Dec.{lit<}
-use lib.ListN.{length, getD, take, drop, length-map, length-drop, List·getD-map}
+use lib.ListN.{length, getD, take, drop, length-map, List·getD-map}
 use lib.Seq.{getD-drop, drop-drop, drop-at}
 use Rattle.bits.specs.Rows.{bits}
-use Rattle.bits.specs.Packing.{unpacked}
-use Rattle.bits.proofs.Below.{below-drop}
-use Rattle.bits.proofs.Packing.{unpacked-length, unpacked-below, unpacked-packed, unpacked-at}
+use Rattle.bits.proofs.Packing.{unpacked-at}
 use Rattle.words.specs.Words.{wordOf}
 use Rattle.field.specs.Sizes.{paddingBits}
 use Rattle.field.specs.Padding.{padding}
 use Rattle.field.specs.Field.{wordBits, fieldBits}
-use Rattle.field.specs.Parts.{breakPart, wordsPart, paddingPart}
 use Rattle.field.proofs.FieldBits.{wordBits-length}
-use Rattle.field.proofs.FieldParts.{LengthAllowed}
 use Rattle.field.proofs.PaddingBits.{padding-at}
 
 pub break-in-place : (payload : List ℕ) → 0 < length payload → getD (fieldBits payload) 0 0 ≡ 1 - (length payload + 1) % 2
@@ -51,22 +46,3 @@ padding-in-place (x ∷ payload) i h g =
     ∙ ap (λ (l : List ℕ). getD l i 0) (sym (drop-drop words 1 (fieldBits all)) ∙ drop-at (wordBits all) pad words (wordBits-length all))
     ∙ padding-at 0 (paddingBits (length all)) i (lit< tt) g
     ∙ ap (_% 2) (zero-add i)
-
-pub break-looked-at : (field : List ℕ) → 0 < length field → breakPart field ≡ take 1 (unpacked 8 field)
-unfolding breakPart
-break-looked-at [] h = absurd (not-suc-le-zero h)
-break-looked-at (x ∷ l) h = refl
-
-pub words-looked-at : (field : List ℕ) → LengthAllowed field → 0 < length field
-    → unpacked 9 (wordsPart field) ≡ take (9 * (length field - 1)) (drop 1 (unpacked 8 field))
-unfolding wordsPart
-words-looked-at [] allowed h = absurd (not-suc-le-zero h)
-words-looked-at (x ∷ l) allowed h =
-    let all = unpacked 8 (x ∷ l) in
-    unpacked-packed 9 (length (x ∷ l) - 1) (drop 1 all) (below-drop 2 1 all (unpacked-below 8 (x ∷ l)))
-    (omega (arith, length-drop 1 all, unpacked-length 8 (x ∷ l), allowed .at-most))
-
-pub padding-looked-at : (field : List ℕ) → 0 < length field → paddingPart field ≡ drop (1 + 9 * (length field - 1)) (unpacked 8 field)
-unfolding paddingPart
-padding-looked-at [] h = absurd (not-suc-le-zero h)
-padding-looked-at (x ∷ l) h = refl

@@ -1,29 +1,19 @@
--- How large the numbers of an answer are, in coding and decoding: refusal's number, and length or place. Assumes nothing.
+-- How large the numbers of encoding's answer are: refusal's number, and length. Assumes nothing.
 --     encode-small    at most 8
---     decode-small    at most 7: a place is the number of one of at most seven words
 use mathlib.Core.Path.{_≡_, refl}
-use mathlib.Core.Bool.{Bool, true, false, cond, not, _||_}
-use mathlib.Core.List.{List, [], _∷_}
-use Prim.Native.Nat.{ℕ, _+_, _≤_}
+use mathlib.Core.Bool.{Bool, true, false, cond}
+use mathlib.Core.List.{List}
+use Prim.Native.Nat.{ℕ}
 use native.Mathlib.Omega.{arith}
-use lib.Dec.{eqb, ltb, lit<}
-use lib.ListN.{length, length-map}
+use lib.Dec.{ltb, lit<}
+use lib.ListN.{length}
 use borrow.Author.Tests.{ltb-false}
 use Rattle.bits.specs.Below.{Below}
-use Rattle.bits.specs.Same.{same}
-use Rattle.bits.proofs.Packing.{packed-length}
 use Rattle.refusals.specs.Table.{answerNumbers}
-use Rattle.refusals.specs.declared.Answer.{Answer}
 use Rattle.refusals.specs.declared.Answer.the-variants.{Length, Refused}
 use Rattle.refusals.specs.declared.Refusal.the-variants as refusal
-use Rattle.words.specs.Symbols.{symbolOf}
-use Rattle.words.specs.declared.Symbol.{Symbol}
-use Rattle.words.specs.declared.Symbol.the-variants.{Byte, Escape, Nothing}
-use Rattle.field.specs.Sizes.{fieldBytes, breakBit, paddingBits}
-use Rattle.field.specs.Padding.{padding}
-use Rattle.field.specs.Parts.{sizeOf, breakPart, wordsPart, paddingPart, symbolsOf}
+use Rattle.field.specs.Sizes.{fieldBytes}
 use Rattle.field.specs.Encode.{encodeAnswer}
-use Rattle.field.specs.Decode.{wordsAnswer, paddingAnswer, decodeAnswer}
 use Rattle.field.proofs.Sizes.{fieldBytes-few}
 
 pub encode-small : (payload : List ℕ) (room : ℕ) → Below 9 (answerNumbers (encodeAnswer payload room))
@@ -38,43 +28,3 @@ encode-small payload room = go (ltb 7 size) refl (ltb room (fieldBytes size))
     go true e short = (lit< tt, (lit< tt, tt))
     go false e true = (lit< tt, (lit< tt, tt))
     go false e false = (lit< tt, (omega (arith, fieldBytes-few size (ltb-false 7 size e)), tt))
-
-words-small : (word : ℕ) (l : List Symbol) (next : Answer) → word + length l ≤ 7 → Below 8 (answerNumbers next)
-    → Below 8 (answerNumbers (wordsAnswer word l next))
-words-small word [] next h small = small
-words-small word (Byte x ∷ l) next h small = words-small (word + 1) l next (omega arith) small
-words-small word (Escape ∷ l) next h small = (lit< tt, (omega arith, tt))
-words-small word (Nothing ∷ l) next h small = (lit< tt, (omega arith, tt))
-
-symbols-count : (field : List ℕ) → length (symbolsOf field) ≡ sizeOf field
-unfolding wordsPart
-symbols-count field = rw (length-map (wordsPart field) symbolOf) (packed-length 9 (sizeOf field) _)
-
-pub decode-small : (field : List ℕ) (room : ℕ) → Below 8 (answerNumbers (decodeAnswer field room))
-unfolding decodeAnswer
-decode-small field room =
-    go (eqb (length field) 1) (ltb 8 (length field)) refl (ltb room size) (not (same (breakPart field) (breakBit (length field))))
-  where
-    size : ℕ
-    size = sizeOf field
-
-    right : Bool
-    right = same (paddingPart field) (padding 0 (paddingBits size))
-
-    body : Answer
-    body = wordsAnswer 0 (symbolsOf field) (paddingAnswer right size)
-
-    padded : (t : Bool) → size ≤ 7 → Below 8 (answerNumbers (paddingAnswer t size))
-    padded true few = (lit< tt, (omega arith, tt))
-    padded false few = (lit< tt, (lit< tt, tt))
-
-    go : (one long : Bool) → ltb 8 (length field) ≡ long → (short broken : Bool)
-        → Below 8 (answerNumbers (cond (one || long) (Refused (refusal.FieldLength 0)) (cond short (Refused refusal.RoomShort)
-        (cond broken (Refused refusal.BreakBit) body))))
-    go true long e short broken = (lit< tt, (lit< tt, tt))
-    go false true e short broken = (lit< tt, (lit< tt, tt))
-    go false false e true broken = (lit< tt, (lit< tt, tt))
-    go false false e false true = (lit< tt, (lit< tt, tt))
-    go false false e false false =
-        let few : size ≤ 7 = omega (arith, ltb-false 8 (length field) e) in
-        words-small 0 (symbolsOf field) (paddingAnswer right size) (omega (arith, symbols-count field)) (padded right few)

@@ -1,4 +1,4 @@
-// The data field of a payload of 0 to 7 bytes: coded and decoded.
+// The data field of a payload of 0 to 7 bytes.
 //
 // On success only the bytes of the result are written; after a refusal the lent buffer holds its old bytes.
 ghost use mathlib.Core.Path.{_≡_};
@@ -6,12 +6,9 @@ ghost use lib.ListN.{length};
 ghost use Rattle.refusals.specs.After.{after};
 ghost use Rattle.field.specs.Field.{fieldOf};
 ghost use Rattle.field.specs.Encode.{encodeAnswer};
-ghost use Rattle.field.specs.Decode.{decodeAnswer, payloadOf};
 
-mod bytes;
-pub mod decoding;
 pub mod encoding;
-mod padding;
+pub mod padding;
 mod storing;
 pub mod table;
 
@@ -33,22 +30,4 @@ pub fn encode(payload: &[u8], field: &mut [u8]) -> Answer
     }
     let list = word_list::list();
     storing::by_size(&list, payload, field)
-}
-
-// Decodes a field: the length of its payload, which stands at the start of `payload`. Refused with 2 to 7.
-pub fn decode(field: &[u8], payload: &mut [u8]) -> Answer
-    ensures answer { λ r. ⌜ r ≡ decodeAnswer (now (field .entry)) (length (now (payload .entry))) ⌝ }
-    ensures memory { λ r. ⌜ now (payload .exit) ≡ after r (payloadOf (now (field .entry))) (now (payload .entry)) ⌝ }
-{
-    let n = field.len();
-    if n == 1 {
-        return Answer::Refused(Refusal::FieldLength(0));
-    }
-    if 8 < n {
-        return Answer::Refused(Refusal::FieldLength(0));
-    }
-    if n == 0 {
-        return Answer::Length(0);
-    }
-    decoding::by_size(field, payload)
 }

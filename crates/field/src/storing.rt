@@ -6,9 +6,9 @@ ghost use Rattle.refusals.specs.After.{after};
 ghost use Rattle.words.specs.Lists.{wordList};
 ghost use Rattle.field.specs.Field.{fieldOf};
 ghost use Rattle.field.specs.Encode.{encodeAnswer};
-use crate::bytes;
 use crate::encoding;
 use crate::table;
+use bits::bytes;
 use refusals::Answer;
 use refusals::Refusal;
 

@@ -1,6 +1,6 @@
 // Document 01's table of eight rows by payload size.
 ghost use mathlib.Core.Path.{_≡_};
-ghost use Prim.Native.Nat.{_<_};
+ghost use lib.ListN.{getD};
 ghost use Rattle.field.specs.Table.{rowOf, rows};
 
 // What the size of a payload decides of its field.
@@ -63,11 +63,13 @@ pub fn rows() -> [Row; 8]
     ROWS
 }
 
-// The row of a size.
-pub(crate) fn row_of(size: usize) -> Row
-    requires { ⌜ size < 8 ⌝ }
-    ensures { λ r. ⌜ r ≡ rowOf size ⌝ }
+// The row of a size; above 7, that of the empty payload.
+pub fn row_of(size: usize) -> Row
+    ensures { λ r. ⌜ r ≡ getD rows size (rowOf 0) ⌝ }
 {
     let rows = rows();
+    if 7 < size {
+        return rows[0];
+    }
     rows[size]
 }

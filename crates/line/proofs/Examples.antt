@@ -10,8 +10,8 @@ use Rattle.bits.specs.Neighbours.{equalNeighbours}
 use Rattle.words.specs.Words.{words}
 use Rattle.words.specs.Symbols.{placeIn, symbolOf}
 use Rattle.field.specs.Padding.{padding}
-use Rattle.field.specs.Parts.{breakPart, wordsPart, paddingPart}
-use Rattle.field.specs.Decode.{decodeAnswer}
+use Rattle.decoding.specs.Parts.{breakPart, wordsPart, paddingPart}
+use Rattle.decoding.specs.Decode.{decodeAnswer}
 use Rattle.crc.specs.Crc.{xor, divide, remainder, crc}
 use Rattle.line.specs.Fields.{fieldsOf, form}
 use Rattle.line.specs.Scan.{dlcIn, crcStart, complete, stuffDue, mustBe, shown, verdict, runWith, frameWith, scan, scanned}

@@ -17,9 +17,9 @@ use Rattle.refusals.specs.declared.Answer.the-variants as answer
 use Rattle.refusals.specs.declared.Refusal.{Refusal}
 use Rattle.refusals.specs.declared.Refusal.the-variants.{LineLength}
 use Rattle.refusals.specs.Table.{numberOf, placeOf}
-use Rattle.field.specs.Decode.{decodeAnswer}
-use Rattle.field.proofs.FieldParts.{LengthAllowed}
-use Rattle.field.proofs.DecodeAnswers.{OfField, decode-numbers}
+use Rattle.decoding.specs.Decode.{decodeAnswer}
+use Rattle.decoding.proofs.FieldParts.{LengthAllowed}
+use Rattle.decoding.proofs.DecodeAnswers.{OfField, decode-numbers}
 use Rattle.frame.specs.Line.{frameLine}
 use Rattle.line.specs.Ack.{withAck}
 use Rattle.line.specs.Scan.{Scanned, whole, stopped, scanned}

@@ -18,11 +18,11 @@ use Rattle.bits.specs.Stuffing.{nothingSent}
 use Rattle.refusals.specs.declared.Answer.{Answer}
 use Rattle.refusals.specs.declared.Answer.the-variants as answer
 use Rattle.field.specs.Field.{fieldOf}
-use Rattle.field.specs.Decode.{decodeAnswer}
 use Rattle.field.proofs.Sizes.{fieldBytes-few, fieldBytes-not-one}
 use Rattle.field.proofs.FieldBits.{field-length, field-below}
-use Rattle.field.proofs.Accepted.{accepted}
-use Rattle.field.proofs.RoundTrip.{decode-encode, payload-of-field, field-of-payload}
+use Rattle.decoding.specs.Decode.{decodeAnswer}
+use Rattle.decoding.proofs.Accepted.{accepted}
+use Rattle.decoding.proofs.RoundTrip.{decode-encode, payload-of-field, field-of-payload}
 use Rattle.frame.specs.Line.{frameLine}
 use Rattle.frame.specs.Answers.{payloadLine}
 use Rattle.line.specs.Scan.{Scanned, whole, stopped, scanned}

@@ -19,8 +19,8 @@ use Rattle.refusals.specs.declared.Refusal.{Refusal}
 use Rattle.refusals.specs.declared.Refusal.the-variants.{LineLength}
 use Rattle.refusals.specs.Table.{placeOf, answerNumbers}
 use Rattle.refusals.proofs.Table.{number-in-table}
-use Rattle.field.specs.Decode.{decodeAnswer}
-use Rattle.field.proofs.Small.{decode-small}
+use Rattle.decoding.specs.Decode.{decodeAnswer}
+use Rattle.decoding.proofs.Small.{decode-small}
 use Rattle.line.specs.Scan.{dlcIn, crcStart, complete, stuffDue, Verdict, right, wrong, verdict, runWith, frameWith, Scanned, whole, stopped, onward, scan, scanned}
 use Rattle.line.specs.Read.{identifierIn, fieldIn, withIdentifier, decoded, readAnswer, answerOf}
 use Rattle.line.specs.declared.Line.{Line}

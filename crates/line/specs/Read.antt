@@ -7,7 +7,7 @@ use Rattle.bits.specs.Packing.{packed}
 use Rattle.refusals.specs.declared.Answer.{Answer}
 use Rattle.refusals.specs.declared.Answer.the-variants as answer
 use Rattle.refusals.specs.Table.{numberOf, placeOf}
-use Rattle.field.specs.Decode.{decodeAnswer, payloadOf}
+use Rattle.decoding.specs.Decode.{decodeAnswer, payloadOf}
 use Rattle.line.specs.Scan.{dlcIn, Scanned, whole, stopped, scanned}
 use Rattle.line.specs.declared.Line.{Line}
 use Rattle.line.specs.declared.Line.the-variants.{Frame, Refused}

@@ -2,12 +2,11 @@
 ghost use mathlib.Core.Path.{_≡_};
 ghost use lib.ListN.{length};
 ghost use Rattle.refusals.specs.After.{after};
-ghost use Rattle.field.specs.Decode.{decodeAnswer, payloadOf};
+ghost use Rattle.decoding.specs.Decode.{decodeAnswer, payloadOf};
 ghost use Rattle.line.specs.Read.{withIdentifier, answerOf};
 ghost use Rattle.line.specs.Steps.{identifierHeld, fieldHeld};
 use crate::Line;
 use crate::seen::Seen;
-use field::decoding;
 use refusals::Answer;
 
 // It is decoded, and the identifier stands beside the answer. Refused with 2 and 4 to 7.

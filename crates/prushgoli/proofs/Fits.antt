@@ -9,8 +9,9 @@ use Rattle.bits.proofs.Below.{below-more}
 use Rattle.refusals.specs.Table.{answerNumbers}
 use Rattle.refusals.specs.declared.Answer.{Answer}
 use Rattle.field.specs.Encode.{encodeAnswer}
-use Rattle.field.specs.Decode.{decodeAnswer}
-use Rattle.field.proofs.Small.{encode-small, decode-small}
+use Rattle.field.proofs.Small.{encode-small}
+use Rattle.decoding.specs.Decode.{decodeAnswer}
+use Rattle.decoding.proofs.Small.{decode-small}
 use Rattle.frame.specs.Answers.{makeAnswer, lengthAnswer, boundsAnswer, boundsNumbers}
 use Rattle.frame.specs.declared.Bounds.{Bounds}
 use Rattle.frame.proofs.Small.{length-small, make-small, bounds-small}

@@ -4,7 +4,7 @@ ghost use lib.ListN.{length};
 ghost use Rattle.refusals.specs.After.{after};
 ghost use Rattle.field.specs.Field.{fieldOf};
 ghost use Rattle.field.specs.Encode.{encodeAnswer};
-ghost use Rattle.field.specs.Decode.{decodeAnswer, payloadOf};
+ghost use Rattle.decoding.specs.Decode.{decodeAnswer, payloadOf};
 ghost use Rattle.frame.specs.Answers.{payloadLine, makeAnswer, lengthAnswer, boundsAnswer};
 ghost use Rattle.line.specs.Read.{readAnswer, payloadIn, answerOf};
 ghost use Rattle.prushgoli.specs.Packing.{packedAnswer, packedBounds, packedLine};
@@ -26,7 +26,7 @@ pub extern "C" fn prushgoli_decode(field: &[u8], payload: &mut [u8]) -> u64
     ensures answer { λ r. ⌜ r ≡ packedAnswer (decodeAnswer (now (field .entry)) (length (now (payload .entry)))) ⌝ }
     ensures memory { λ _. ⌜ now (payload .exit) ≡ after (decodeAnswer (now (field .entry)) (length (now (payload .entry)))) (payloadOf (now (field .entry))) (now (payload .entry)) ⌝ }
 {
-    packing::answer(field::decode(field, payload))
+    packing::answer(decoding::decode(field, payload))
 }
 
 // The length of the frame of an identifier and a payload.

@@ -12,9 +12,9 @@ use Rattle.words.specs.Words.{words, wordOf}
 use Rattle.words.specs.Symbols.{placeIn, symbolOf}
 use Rattle.field.specs.Padding.{padding}
 use Rattle.field.specs.Field.{fieldBits, fieldOf}
-use Rattle.field.specs.Parts.{breakPart, wordsPart, paddingPart}
 use Rattle.field.specs.Encode.{encodeAnswer}
-use Rattle.field.specs.Decode.{decodeAnswer, payloadOf}
+use Rattle.decoding.specs.Parts.{breakPart, wordsPart, paddingPart}
+use Rattle.decoding.specs.Decode.{decodeAnswer, payloadOf}
 use Rattle.records.specs.Records.{kindOf, recordAt, bodyAt}
 use Rattle.report.specs.Text.{decimalIn, decimal, hexDigit, hex, bytesText}
 use Rattle.report.specs.Report.{lineText, outcomeText, encodedText, decodedText, lineAt, reportedAt, linesFrom, report}

@@ -16,9 +16,11 @@ use Rattle.refusals.specs.declared.Answer.{Answer}
 use Rattle.refusals.specs.declared.Answer.the-variants.{Length, Refused}
 use Rattle.field.specs.Field.{fieldOf}
 use Rattle.field.specs.Encode.{encodeAnswer}
-use Rattle.field.specs.Decode.{decodeAnswer, payloadOf}
-use Rattle.field.proofs.Small.{encode-small, decode-small}
-use Rattle.field.proofs.Lengths.{encode-result, decode-result}
+use Rattle.field.proofs.Small.{encode-small}
+use Rattle.field.proofs.Lengths.{encode-result}
+use Rattle.decoding.specs.Decode.{decodeAnswer, payloadOf}
+use Rattle.decoding.proofs.Small.{decode-small}
+use Rattle.decoding.proofs.Lengths.{decode-result}
 use Rattle.report.specs.Report.{outcomeText}
 use Rattle.report.specs.Writing.{Holds, heldIn}
 

@@ -22,7 +22,7 @@ use Rattle.refusals.specs.declared.Answer.the-variants as answer
 use Rattle.refusals.specs.declared.Refusal.the-variants.{RoomShort}
 use Rattle.field.specs.Field.{fieldOf}
 use Rattle.field.specs.Encode.{encodeAnswer}
-use Rattle.field.specs.Decode.{decodeAnswer, payloadOf}
+use Rattle.decoding.specs.Decode.{decodeAnswer, payloadOf}
 use Rattle.records.specs.Records.{recordAt, bodyAt}
 use Rattle.records.specs.declared.Record.{Record}
 use Rattle.records.specs.declared.Record.the-variants as found

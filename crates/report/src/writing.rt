@@ -24,7 +24,7 @@ pub(crate) fn decoded(number: usize, field: &[u8], line: &mut [u8]) -> usize
     ensures { λ r. ⌜ Wrote (decodedText number (now (field .entry))) 0 (now (line .entry)) (now (line .exit)) r ⌝ }
 {
     let mut payload = [0u8; 8];
-    let answer = field::decode(field, &mut payload);
+    let answer = decoding::decode(field, &mut payload);
     outcome(number, b'D', answer, &payload, line)
 }
 

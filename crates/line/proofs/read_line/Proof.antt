@@ -5,7 +5,7 @@ use Prim.Native.Nat.{ℕ}
 use lib.ListN.{length}
 use borrow.Author.Needs.{needs}
 use Rattle.refusals.specs.After.{after}
-use Rattle.field.specs.Decode.{decodeAnswer, payloadOf}
+use Rattle.decoding.specs.Decode.{decodeAnswer, payloadOf}
 use Rattle.line.specs.Scan.{scanned}
 use Rattle.line.specs.Read.{withIdentifier, answerOf}
 use Rattle.line.specs.Steps.{Reads}

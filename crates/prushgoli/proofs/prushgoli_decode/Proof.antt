@@ -1,8 +1,8 @@
--- `prushgoli::prushgoli_decode` meets its contract: it passes on what `field::decode` answered and left. Assumes nothing.
+-- `prushgoli::prushgoli_decode` meets its contract: it passes on what `decoding::decode` answered and left. Assumes nothing.
 use borrow.Author.Needs.{needs}
 use Rattle.refusals.specs.After.{after}
 use Rattle.refusals.specs.declared.Answer.{Answer}
-use Rattle.field.specs.Decode.{payloadOf}
+use Rattle.decoding.specs.Decode.{payloadOf}
 use Rattle.prushgoli.specs.Packing.{packedAnswer}
 use Rattle.prushgoli.proofs.Packed.{same-packed}
 use Rattle.prushgoli.proofs.Fits.{decode-fits}

@@ -4,6 +4,7 @@ use Prim.Native.Nat.{ℕ, _+_, _*_, _^_, _≤_, _<_}
 use native.Mathlib.Nat.{mod-eq-of-lt}
 use native.Mathlib.Omega.{arith}
 use borrow.Author.Needs.{needs}
+use lib.Dec.{lit<}
 use lib.ListN.{length}
 use Rattle.bits.specs.Rows.{number}
 use Rattle.field.specs.Sizes.{fieldBytes, breakBit, paddingBits}
@@ -11,6 +12,7 @@ use Rattle.field.specs.Field.{fieldBits}
 use Rattle.field.specs.Table.{rowOf}
 use Rattle.field.specs.declared.table.Row.{Row}
 use Rattle.field.proofs.Sizes.{paddingBits-few, break-number-below}
+use Rattle.field.proofs.PaddingBits.{paddingNumber-is}
 use Rattle.field.proofs.FieldBits.{field-number, field-number-below}
 use Rattle.field.proofs.encoding.field_number.Statement.{statement}
 use Rattle.field.proofs.encoding.field_number.Tie as tie
@@ -38,7 +40,7 @@ shl-result : tie.Need-shl-result
 shl-result c = omega (arith, pad-few (c .before .before))
 
 number-of-requires : tie.Need-number-of-requires
-number-of-requires c κs = (omega arith, pad-few (c .before .before))
+number-of-requires c κs = search needs
 
 -- the two parts, before the shift's own bound is looked at
 whole : (c : tie.After-number-of)
@@ -46,7 +48,8 @@ whole : (c : tie.After-number-of)
     ≡ number 0 (fieldBits (c .before .before .before .args .payload .now))
 whole c =
     let start = c .before .before .before in
-    rw (c .before .with-words .ensures, c .number-of .ensures, bit start, pad start) (field-number _)
+    let padded = c .number-of .ensures ∙ paddingNumber-is 0 _ (lit< tt) (pad-few start) in
+    rw (c .before .with-words .ensures, padded, bit start, pad start) (field-number _)
 
 few : (c : tie.After-number-of) → number 0 (fieldBits (c .before .before .before .args .payload .now)) < 2 ^ 64
 few c = field-number-below _ (omega arith)

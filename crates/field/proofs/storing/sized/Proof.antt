@@ -5,14 +5,16 @@ use native.Mathlib.Omega.{arith}
 use borrow.Author.Needs.{needs}
 use lib.ListN.{length}
 use Rattle.bits.specs.Rows.{number}
+use Rattle.bits.proofs.Loading.{store-result}
 use Rattle.refusals.specs.declared.Answer.the-variants.{Length}
 use Rattle.field.specs.Sizes.{fieldBytes}
 use Rattle.field.specs.Field.{fieldOf}
+use Rattle.field.specs.Table.{rowOf}
 use Rattle.field.specs.declared.table.Row.{Row}
 use Rattle.field.proofs.Sizes.{fieldBytes-few}
+use Rattle.field.proofs.TableRows.{row-at}
 use Rattle.field.proofs.FieldBits.{field-length, field-below, bits-of-field}
 use Rattle.field.proofs.EncodeAnswers.{encode-short, encode-accepts}
-use Rattle.field.proofs.Stored.{stored}
 use Rattle.field.proofs.storing.sized.Statement.{statement}
 use Rattle.field.proofs.storing.sized.Tie as tie
 
@@ -22,22 +24,23 @@ short c = omega arith
 row-of-requires : tie.Need-row-of-requires
 row-of-requires c κs = search needs
 
--- the row's bytes
+-- the row, and its bytes
+row : (c : tie.After-row-of) → c .row-of .result ≡ rowOf (c .before .before .before .args .size)
+row c = c .row-of .ensures ∙ row-at (rowOf 0) _ (omega arith)
+
 bytes : (c : tie.After-row-of) → c .row-of .result .bytes ≡ fieldBytes (length (c .before .before .before .args .payload .now))
-bytes c = ap (λ (r : Row). r .bytes) (c .row-of .ensures) ∙ ap fieldBytes (sym (c .before .before .before .pre .1))
+bytes c = ap (λ (r : Row). r .bytes) (row c) ∙ ap fieldBytes (sym (c .before .before .before .pre .1))
 
 returns : tie.Need-returns
 returns c =
-    let row = c .before in
-    (sym (encode-short _ _ (short (row .before .before .before)) (rw (bytes row) at (c .if1 .taken))), refl)
+    let looked = c .before in
+    (sym (encode-short _ _ (short (looked .before .before .before)) (rw (bytes looked) at (c .if1 .taken))), refl)
 
 field-number-requires : tie.Need-field-number-requires
-field-number-requires c κs = search needs
+field-number-requires c κs = (search needs, row (c .before), search needs, search needs)
 
 store-requires : tie.Need-store-requires
-store-requires c κs =
-    let row = c .before .before .before in
-    (omega (arith, bytes row, fieldBytes-few _ (short (row .before .before .before))), search needs)
+store-requires c κs = search needs
 
 same-length : tie.Need-same-length
 same-length c = search needs
@@ -45,13 +48,15 @@ same-length c = search needs
 returns-2 : tie.Need-returns-2
 returns-2 c =
     let counted = c .before .before .before .before in
-    let row = counted .before .before in
-    let few = short (row .before .before .before) in (
-      ap Length (bytes row) ∙ sym (encode-accepts _ _ few (rw (bytes row) at (counted .before .if1 .left))),
+    let looked = counted .before .before in
+    let few = short (looked .before .before .before) in (
+      ap Length (bytes looked) ∙ sym (encode-accepts _ _ few (rw (bytes looked) at (counted .before .if1 .left))),
       c .before .before .store .ensures
-          ∙ stored (fieldOf _) _ _ _ (field-below _)
+          ∙ store-result (fieldOf _) _ _ _ (field-below _)
           (counted .field-number .ensures ∙ ap (number 0) (sym (bits-of-field _ few)))
-          (bytes row ∙ sym (field-length _)),
+          (bytes looked ∙ sym (field-length _))
+          (omega arith)
+          (omega (arith, bytes looked, fieldBytes-few _ few)),
     )
 
 pub sized-spec : {M : Type 1} → statement M

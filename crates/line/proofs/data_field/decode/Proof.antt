@@ -4,7 +4,7 @@ use lib.ListN.{length}
 use borrow.Author.Needs.{needs}
 use Rattle.refusals.specs.After.{after}
 use Rattle.refusals.specs.declared.Answer.{Answer}
-use Rattle.field.specs.Decode.{decodeAnswer, payloadOf}
+use Rattle.decoding.specs.Decode.{decodeAnswer, payloadOf}
 use Rattle.line.specs.Read.{withIdentifier}
 use Rattle.line.specs.Steps.{identifierHeld, fieldHeld}
 use Rattle.line.proofs.data_field.decode.Statement.{statement}

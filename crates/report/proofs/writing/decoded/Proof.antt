@@ -1,4 +1,4 @@
--- `report::writing::decoded` meets its contract: the buffer holds the result of `field::decode`. Assumes nothing.
+-- `report::writing::decoded` meets its contract: the buffer holds the result of `decoding::decode`. Assumes nothing.
 use mathlib.Core.Path.{subst}
 use mathlib.Core.List.{List}
 use Prim.Native.Nat.{ℕ}
