@@ -22,7 +22,7 @@ pub(crate) fn of(parts: Parts) -> usize
 }
 
 // The 44 bits beside the data, eight for each of n data bytes, and the stuff bits that follow header and CRC bits.
-fn total(n: usize, header: usize, check: usize) -> usize
+pub(crate) fn total(n: usize, header: usize, check: usize) -> usize
     requires { ⌜ (n ≤ 8) × (header ≤ 64) × (check ≤ 64) ⌝ }
     ensures { λ r. ⌜ r ≡ 44 + 8 * n + (header + check) ⌝ }
 {

@@ -64,11 +64,11 @@ pub fn frame_bounds(identifier: u32, size: usize) -> Bounds
     if 7 < size {
         return Bounds::Refused(Refusal::PayloadTooLong);
     }
-    let rows = table::rows();
-    let n = rows[size].bytes;
+    let row = table::row_of(size);
+    let n = row.bytes;
     let list = sent_list::list();
     let header = header::of(identifier, n);
     let head = stuffing::count(&list, stuffing::start(header), header, 4);
-    let least = 44 + 8 * n + head.drawn;
+    let least = length::total(n, head.drawn, 0);
     Bounds::Between(least, least + 4)
 }

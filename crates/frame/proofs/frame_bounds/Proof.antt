@@ -1,18 +1,16 @@
 -- `frame::frame_bounds` meets its contract: the tests decide the refusals, the table and the header's stuff bits the bounds.
 -- Assumes nothing.
 use mathlib.Core.Path.{_≡_, sym, ap, _∙_, subst}
-use Prim.Native.Nat.{ℕ, _≤_}
+use Prim.Native.Nat.{ℕ, _+_, _*_, _≤_}
 use native.Mathlib.Omega.{arith}
 use borrow.Author.Needs.{needs}
-use lib.ListN.{getD}
 use Rattle.bits.specs.Rows.{bits}
 use Rattle.bits.specs.Stuffing.{nothingSent, stuffCount}
 use Rattle.bits.proofs.Rows.{bits-length}
 use Rattle.field.specs.Sizes.{fieldBytes}
-use Rattle.field.specs.Table.{rowOf}
 use Rattle.field.specs.declared.table.Row.{Row}
 use Rattle.field.proofs.Sizes.{fieldBytes-few}
-use Rattle.field.proofs.TableRows.{row-at}
+use Rattle.field.proofs.TableRows.{row-bytes}
 use Rattle.frame.specs.Fours.{runOf}
 use Rattle.frame.specs.StuffBits.{headerStuffBits}
 use Rattle.frame.proofs.Quiet.{header-drawn}
@@ -26,26 +24,14 @@ returns c = sym (bounds-identifier _ _ (c .if1 .taken))
 returns-2 : tie.Need-returns-2
 returns-2 c = sym (bounds-long _ _ (c .before .if1 .left) (c .if2 .taken))
 
-rows-requires : tie.Need-rows-requires
-rows-requires c κs = search needs
+row-of-requires : tie.Need-row-of-requires
+row-of-requires c κs = search needs
 
-mul-n : tie.Need-mul-n
-mul-n c = search needs
+-- the bytes of the row
+bytes : (c : tie.After-row-of) → c .row-of .result .bytes ≡ fieldBytes (c .before .before .before .args .size)
+bytes c = ap (λ (r : Row). r .bytes) (c .row-of .ensures) ∙ row-bytes _ (omega arith)
 
-element-copy-out-n : tie.Need-element-copy-out-n
-element-copy-out-n c = search needs
-
--- the row that is read
-abbrev rowIn : tie.After-rows → Row
-rowIn c = getD (c .rows .result) (c .before .before .before .args .size) (record { bytes = 0; «break_bit» = 0; padding = 0 })
-
-row : (c : tie.After-rows) → rowIn c ≡ rowOf (c .before .before .before .args .size)
-row c = rw (c .rows .ensures) (row-at _ _ (omega arith))
-
-bytes : (c : tie.After-rows) → rowIn c .bytes ≡ fieldBytes (c .before .before .before .args .size)
-bytes c = ap (λ (r : Row). r .bytes) (row c)
-
-few : (c : tie.After-rows) → rowIn c .bytes ≤ 8
+few : (c : tie.After-row-of) → c .row-of .result .bytes ≤ 8
 few c = subst (λ (n : ℕ). n ≤ 8) (sym (bytes c)) (fieldBytes-few (c .before .before .before .args .size) (omega arith))
 
 list-requires : tie.Need-list-requires
@@ -71,23 +57,20 @@ drawn c =
       omega (arith, c .count .ensures .few, bits-length 16 h),
     )
 
-mul-least : tie.Need-mul-least
-mul-least c = omega (arith, few (c .before .before .before .before .before))
+total-requires : tie.Need-total-requires
+total-requires c κs = (omega (arith, few (c .before .before .before .before .before)), omega (arith, drawn c .1), omega arith)
 
-add-least : tie.Need-add-least
-add-least c = omega (arith, few (c .before .before .before .before .before))
-
-add-least-2 : tie.Need-add-least-2
-add-least-2 c = omega (arith, few (c .before .before .before .before .before .before), drawn (c .before) .1)
-
-add-t13 : tie.Need-add-t13
-add-t13 c = omega (arith, few (c .before .before .before .before .before .before), drawn (c .before) .1)
+add-t15 : tie.Need-add-t15
+add-t15 c = omega (arith, few (c .before .before .before .before .before .before), drawn (c .before) .1, c .total .ensures)
 
 returns-3 : tie.Need-returns-3
 unfolding headerStuffBits
 returns-3 c =
-    bounds-found _ _ _ _ (omega arith) (omega arith) (bytes (c .before .before .before .before .before .before))
-    (drawn (c .before) .0 ∙ ap (stuffCount nothingSent) (c .before .before .before .before .of .ensures .0))
+    let row = c .before .before .before .before .before .before in
+    let least : c .total .result ≡ 44 + 8 * row .row-of .result .bytes + c .before .count .result .drawn = omega (arith, c .total .ensures) in
+    rw least
+    (bounds-found _ _ _ _ (omega arith) (omega arith) (bytes row)
+    (drawn (c .before) .0 ∙ ap (stuffCount nothingSent) (c .before .before .before .before .of .ensures .0)))
 
 pub frame-bounds-spec : {M : Type 1} → statement M
 frame-bounds-spec =
@@ -95,15 +78,11 @@ frame-bounds-spec =
     (tie.spec
     returns
     returns-2
-    rows-requires
-    mul-n
-    element-copy-out-n
+    row-of-requires
     list-requires
     of-requires
     start-requires
     count-requires
-    mul-least
-    add-least
-    add-least-2
-    add-t13
+    total-requires
+    add-t15
     returns-3)
