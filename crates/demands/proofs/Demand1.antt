@@ -4,7 +4,7 @@
 -- they ask of a caller and what they tell it. Inputs i, and the parameters s after the call, are in the order of the signature: .0 the
 -- first, .1 .0 the second. That each entry ends, and meets its contract, is in Meets; what it checks is in Refusals. Assumes nothing.
 --     c-encode-settled and five more        the calls for C
---     encode-settled and twenty-six more    the calls in Rattle
+--     encode-settled and twenty-seven more    the calls in Rattle
 use mathlib.Core.Path.{_≡_, refl, ap, subst, _∙_}
 use mathlib.Core.List.{List}
 use Prim.Native.Nat.{ℕ, _<_, _^_}
@@ -49,6 +49,7 @@ use Rattle.frame.proofs.make_frame.Reads as make-frame
 use Rattle.frame.proofs.frame_length.Reads as frame-length
 use Rattle.frame.proofs.frame_bounds.Reads as frame-bounds
 use Rattle.crc.proofs.of_frame.Reads as of-frame
+use Rattle.scanning.proofs.scan.Reads as scan
 use Rattle.line.proofs.read_line.Reads as read-line
 use Rattle.words.proofs.word.Reads as word
 use Rattle.words.proofs.word_in.Reads as word-in
@@ -160,6 +161,9 @@ frame-bounds-settled κs = settled (λ i. tt) (λ i a s says. says)
 
 pub of-frame-settled : (κs : Lfts 0) → Settled (of-frame.Asked κs) (of-frame.Learnt κs)
 of-frame-settled κs = settled (λ i. tt) (λ i a s says. says)
+
+pub scan-settled : (κs : Lfts 1) → Settled (scan.Asked κs) (scan.Learnt κs)
+scan-settled κs = settled (λ i. tt) (λ i a s says. says)
 
 pub read-line-settled : (κs : Lfts 2)
     → SettledWith (read-line.Asked κs) (read-line.Learnt κs) (λ a. refusalNumber (line.answerOf a)) (λ i. now (i .1 .0)) (λ s. now (s .1 .0))

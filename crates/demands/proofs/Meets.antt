@@ -1,7 +1,7 @@
 -- Demand 1, every public call ends with an answer: each meets its contract, whatever the inputs. `statement` is the toolchain's: a call
 -- that is handed what its types say is safe, ends, and leaves what its clauses say. Assumes nothing.
 --     c-encode-meets and five more        the calls for C
---     encode-meets and twenty-six more    the calls in Rattle
+--     encode-meets and twenty-seven more    the calls in Rattle
 use Rattle.prushgoli.proofs.prushgoli_encode.Met as c-encode
 use Rattle.prushgoli.proofs.prushgoli_encode.Statement as c-encode-contract
 use Rattle.prushgoli.proofs.prushgoli_decode.Met as c-decode
@@ -36,6 +36,8 @@ use Rattle.frame.proofs.frame_bounds.Met as frame-bounds
 use Rattle.frame.proofs.frame_bounds.Statement as frame-bounds-contract
 use Rattle.crc.proofs.of_frame.Met as of-frame
 use Rattle.crc.proofs.of_frame.Statement as of-frame-contract
+use Rattle.scanning.proofs.scan.Met as scan
+use Rattle.scanning.proofs.scan.Statement as scan-contract
 use Rattle.line.proofs.read_line.Met as read-line
 use Rattle.line.proofs.read_line.Statement as read-line-contract
 use Rattle.words.proofs.word.Met as word
@@ -119,6 +121,9 @@ frame-bounds-meets = frame-bounds.met
 
 pub of-frame-meets : {M : Type 1} → of-frame-contract.statement M
 of-frame-meets = of-frame.met
+
+pub scan-meets : {M : Type 1} → scan-contract.statement M
+scan-meets = scan.met
 
 pub read-line-meets : {M : Type 1} → read-line-contract.statement M
 read-line-meets = read-line.met

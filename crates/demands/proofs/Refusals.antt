@@ -43,7 +43,7 @@ use Rattle.frame.specs.Answers.{makeAnswer, lengthAnswer, boundsAnswer, boundsN
 use Rattle.frame.proofs.FrameAnswers.{make-identifier, make-long, make-short, length-identifier, length-long}
 use Rattle.frame.proofs.BoundsAnswers.{bounds-identifier, bounds-long}
 use Rattle.line.specs.Ack.{withAck}
-use Rattle.line.specs.Scan.{right, wrong, verdict, complete, runBehind, frameBehind}
+use Rattle.scanning.specs.Scan.{right, wrong, verdict, complete, runBehind, frameBehind}
 use Rattle.line.specs.Read.{withIdentifier, readAnswer}
 use Rattle.line.specs.declared.Line.the-variants.{Frame, Refused}
 use Rattle.line.proofs.ProblemMet.{problem-met, right-before}

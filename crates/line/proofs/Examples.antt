@@ -13,9 +13,10 @@ use Rattle.field.specs.Padding.{padding}
 use Rattle.decoding.specs.Parts.{breakPart, wordsPart, paddingPart}
 use Rattle.decoding.specs.Decode.{decodeAnswer}
 use Rattle.crc.specs.Crc.{xor, divide, remainder, crc}
-use Rattle.line.specs.Fields.{fieldsOf, form}
-use Rattle.line.specs.Scan.{dlcIn, crcStart, complete, stuffDue, mustBe, shown, verdict, runWith, frameWith, scan, scanned}
-use Rattle.line.specs.Read.{identifierIn, fieldIn, readAnswer, lineNumbers}
+use Rattle.scanning.specs.Fields.{fieldsOf, form}
+use Rattle.scanning.specs.Scan.{dlcIn, crcStart, complete, stuffDue, mustBe, shown, verdict, runWith, frameWith, scan, scanned}
+use Rattle.scanning.specs.Held.{identifierIn}
+use Rattle.line.specs.Read.{fieldIn, readAnswer, lineNumbers}
 
 -- the frame of identifier 0 and the empty payload: 19 + 15 bits 0, six times five of them with a stuff bit; the last is at place 39
 abbrev pub empty : List ℕ

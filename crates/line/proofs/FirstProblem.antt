@@ -18,8 +18,8 @@ use Rattle.bits.specs.Stuffing.{nothingSent}
 use Rattle.refusals.specs.declared.Refusal.{Refusal}
 use Rattle.refusals.specs.declared.Refusal.the-variants.{FieldLength, LineByte, StuffBit, LineLength, Crc, FixedBit}
 use Rattle.refusals.specs.Table.{numberOf, placeOf}
-use Rattle.line.specs.Scan.{crcStart, complete, stuffDue, mustBe, dlcRefused, crcRight, Verdict, right, wrong, shown, verdict, runWith, frameWith, Scanned, whole, stopped, onward, scan, scanned}
-use Rattle.line.proofs.Verdicts.{bit-too-many}
+use Rattle.scanning.specs.Scan.{crcStart, complete, stuffDue, mustBe, dlcRefused, crcRight, Verdict, right, wrong, shown, verdict, runWith, frameWith, Scanned, whole, stopped, onward, scan, scanned}
+use Rattle.scanning.proofs.Verdicts.{bit-too-many}
 
 -- 3, or 9 to 13: what bits are refused with
 abbrev pub OfBits : Refusal → Type 0

@@ -16,7 +16,7 @@ use lib.Dec.{eqb}
 use lib.ListN.{length, getD, take, drop, replicate}
 use borrow.Author.Tests.{eqb-false, ne-eqb}
 use Rattle.bits.specs.Below.{Below}
-use Rattle.line.specs.Fields.{either}
+use Rattle.scanning.specs.Fields.{either}
 
 abbrev pub Fits : List ℕ → List ℕ → Type 0
 Fits [] l = Unit {0}

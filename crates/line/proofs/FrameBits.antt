@@ -23,10 +23,11 @@ use Rattle.frame.specs.Header.{header}
 use Rattle.frame.specs.Line.{crcBits, ending}
 use Rattle.frame.proofs.HeaderBits.{header-length, header-below, dlc-in-place}
 use Rattle.frame.proofs.LineParts.{crc-length}
-use Rattle.line.specs.Fields.{either, fieldsOf, form}
-use Rattle.line.specs.Scan.{dlcIn, crcStart}
-use Rattle.line.specs.Read.{identifierIn, fieldIn}
-use Rattle.line.proofs.Partial.{headerForm, dataForm, crcForm, form-is, dlc-stays}
+use Rattle.scanning.specs.Fields.{either, fieldsOf, form}
+use Rattle.scanning.specs.Scan.{dlcIn, crcStart}
+use Rattle.scanning.specs.Held.{identifierIn}
+use Rattle.scanning.proofs.Partial.{headerForm, dataForm, crcForm, form-is, dlc-stays}
+use Rattle.line.specs.Read.{fieldIn}
 use Rattle.line.proofs.Fits.{Fits, fits-append, fits-free, fits-same}
 use Rattle.line.proofs.Right.{Right}
 

@@ -1,6 +1,7 @@
 -- Bits that are right are those of a frame. Assumes nothing.
 --     right-frame     of the identifier and the data field that are found in them, and of some bit in the ACK slot
 --     identifier-few, field-bytes, bytes-below    which are an identifier, and as many bytes as the DLC says
+--     field-there     the bytes whose bits, as one number, are the data bits
 use mathlib.Core.Path.{_≡_, sym, ap, ap₂, _∙_}
 use mathlib.Core.List.{List, [], _∷_, _++_, append-assoc}
 use Prim.Native.Nat.{ℕ, _+_, _-_, _*_, _%_, _^_, _≤_, _<_}
@@ -15,13 +16,16 @@ use Rattle.bits.specs.Packing.{unpacked}
 use Rattle.bits.proofs.Below.{below-take, below-drop}
 use Rattle.bits.proofs.Rows.{number-low, bits-number}
 use Rattle.bits.proofs.Packing.{packed-length, packed-below, unpacked-packed}
+use Rattle.field.specs.Coded.{fieldFrom}
+use Rattle.field.proofs.Coded.{from-number}
 use Rattle.crc.specs.Crc.{crc}
 use Rattle.frame.specs.Header.{header}
 use Rattle.frame.specs.Line.{crcBits, ending}
-use Rattle.line.specs.Fields.{either, fieldsOf, form}
-use Rattle.line.specs.Scan.{dlcIn, crcStart}
-use Rattle.line.specs.Read.{identifierIn, fieldIn}
-use Rattle.line.proofs.Partial.{headerForm, dataForm, crcForm, form-is}
+use Rattle.scanning.specs.Fields.{either, fieldsOf, form}
+use Rattle.scanning.specs.Scan.{dlcIn, crcStart}
+use Rattle.scanning.specs.Held.{identifierIn, dataIn}
+use Rattle.scanning.proofs.Partial.{headerForm, dataForm, crcForm, form-is}
+use Rattle.line.specs.Read.{fieldIn}
 use Rattle.line.proofs.Fits.{Fits, fits-drop, fits-fixed}
 use Rattle.line.proofs.Right.{Right}
 use Rattle.line.proofs.FrameBits.{headerBits, dataBits, frameBits, front-length}
@@ -92,12 +96,17 @@ module _ (frame : List ℕ) (right : Right frame) where
       (cut 1 11 ∙ ap₂ _++_ (number-part 1 11 (omega (arith, long))) (cut 12 3 ∙ ap₂ _++_ fixed dlc)
       ∙ sym (append-assoc (bits 11 (identifierIn frame)) (0 ∷ 0 ∷ 0 ∷ bits 4 (dlcIn frame)) (drop 19 frame)))
 
+  data-bits : unpacked 8 (fieldIn frame) ≡ take (8 * dlcIn frame) (drop 19 frame)
+  unfolding fieldIn
+  data-bits = unpacked-packed 8 (dlcIn frame) (drop 19 frame) (below-from 19) (omega (arith, length-drop 19 frame, long))
+
+  pub field-there : fieldFrom (dlcIn frame) (dataIn frame) ≡ fieldIn frame
+  unfolding dataIn
+  field-there = from-number (dlcIn frame) (dataIn frame) (fieldIn frame) bytes-below (sym field-bytes) (ap (number 0) (sym data-bits))
+
   data-part : drop 19 frame ≡ unpacked 8 (fieldIn frame) ++ drop (crcStart frame) frame
-  unfolding fieldIn crcStart
-  data-part =
-      let n = dlcIn frame in
-      let bytes = unpacked-packed 8 n (drop 19 frame) (below-from 19) (omega (arith, length-drop 19 frame, long)) in
-      cut 19 (8 * n) ∙ ap (_++ drop (19 + 8 * n) frame) (sym bytes)
+  unfolding crcStart
+  data-part = cut 19 (8 * dlcIn frame) ∙ ap (_++ drop (19 + 8 * dlcIn frame) frame) (sym data-bits)
 
   -- header and data bits of the frame
   abbrev H : List ℕ

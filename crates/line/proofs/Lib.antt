@@ -1,11 +1,3 @@
-pub mod Verdicts
-pub mod Partial
-pub mod Positions
-pub mod RawBits
-pub mod Registers
-pub mod LineBit
-pub mod Keeping
-pub mod FieldEnds
 pub mod ReadAnswers
 pub mod FirstProblem
 pub mod ProblemMet
@@ -18,6 +10,7 @@ pub mod Right
 pub mod FrameBits
 pub mod FrameOf
 pub mod RoundTrip
+pub mod FromScan
 pub mod ReadRefusals
 pub mod Examples
 pub mod Small

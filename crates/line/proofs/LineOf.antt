@@ -13,10 +13,10 @@ use Rattle.bits.specs.declared.Run.{Run}
 use Rattle.bits.specs.Stuffing.{nothingSent, stuffAfter, runAfter, stuffed}
 use Rattle.frame.specs.Line.{crcBits, stuffedCrcBits, stuffedRow, ending, lineOf}
 use Rattle.frame.proofs.LineParts.{crc-length}
+use Rattle.scanning.specs.Scan.{crcStart, stuffDue, runWith}
+use Rattle.scanning.proofs.Partial.{start-least, start-stays}
 use Rattle.line.specs.Ack.{withAck}
-use Rattle.line.specs.Scan.{crcStart, stuffDue, runWith}
 use Rattle.line.proofs.OnLine.{dueBits, dueRun, onLine, lineFrom, no-stuff}
-use Rattle.line.proofs.Partial.{start-least, start-stays}
 use Rattle.line.proofs.AckSlot.{line-ack}
 
 -- how many bits of a frame a stuff bit may follow

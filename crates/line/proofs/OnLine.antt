@@ -16,8 +16,8 @@ use borrow.Author.Tests.{ne-eqb}
 use Rattle.bits.specs.declared.Run.{Run}
 use Rattle.bits.specs.Below.{Below}
 use Rattle.refusals.specs.declared.Refusal.the-variants.{LineLength}
-use Rattle.line.specs.Scan.{complete, stuffDue, right, verdict, runWith, frameWith}
-use Rattle.line.specs.Scan.{whole, stopped, scan}
+use Rattle.scanning.specs.Scan.{complete, stuffDue, right, verdict, runWith, frameWith}
+use Rattle.scanning.specs.Scan.{whole, stopped, scan}
 use Rattle.line.proofs.FirstProblem.{went-on}
 use Rattle.line.proofs.Sound.{Next, Sound, bit-right, right-bit, stuff-right, due-no-more, right-stuff}
 

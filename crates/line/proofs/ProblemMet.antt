@@ -14,7 +14,7 @@ use Rattle.bits.specs.Stuffing.{nothingSent}
 use Rattle.refusals.specs.declared.Refusal.{Refusal}
 use Rattle.refusals.specs.declared.Refusal.the-variants.{LineLength}
 use Rattle.refusals.specs.Table.{placeOf}
-use Rattle.line.specs.Scan.{complete, Verdict, right, wrong, verdict, runWith, frameWith, runBehind, frameBehind, Scanned, whole, stopped, onward, scan, scanned}
+use Rattle.scanning.specs.Scan.{complete, Verdict, right, wrong, verdict, runWith, frameWith, runBehind, frameBehind, Scanned, whole, stopped, onward, scan, scanned}
 use Rattle.line.proofs.FirstProblem.{At, verdict-at, never, stopped-only, stops}
 
 -- of the bits from a place on, the k-th bit is the problem, or there is none where one must be

@@ -13,8 +13,9 @@ use Rattle.refusals.specs.declared.Answer.the-variants as answer
 use Rattle.refusals.specs.declared.Refusal.{Refusal}
 use Rattle.refusals.proofs.Table.{refusal-only, number-some}
 use Rattle.decoding.specs.Decode.{decodeAnswer, payloadOf}
-use Rattle.line.specs.Scan.{Scanned, whole, stopped, scanned}
-use Rattle.line.specs.Read.{identifierIn, fieldIn, withIdentifier, decoded, readAnswer, carried, payloadIn, answerOf, lineNumbers}
+use Rattle.scanning.specs.Scan.{Scanned, whole, stopped, scanned}
+use Rattle.scanning.specs.Held.{identifierIn}
+use Rattle.line.specs.Read.{fieldIn, withIdentifier, decoded, readAnswer, carried, payloadIn, answerOf, lineNumbers}
 use Rattle.line.specs.declared.Line.{Line}
 use Rattle.line.specs.declared.Line.the-variants.{Frame, Refused}
 

@@ -21,9 +21,10 @@ use Rattle.decoding.specs.Decode.{decodeAnswer}
 use Rattle.decoding.proofs.FieldParts.{LengthAllowed}
 use Rattle.decoding.proofs.DecodeAnswers.{OfField, decode-numbers}
 use Rattle.frame.specs.Line.{frameLine}
+use Rattle.scanning.specs.Scan.{Scanned, whole, stopped, scanned}
+use Rattle.scanning.specs.Held.{identifierIn}
 use Rattle.line.specs.Ack.{withAck}
-use Rattle.line.specs.Scan.{Scanned, whole, stopped, scanned}
-use Rattle.line.specs.Read.{identifierIn, fieldIn, withIdentifier, decoded, readAnswer}
+use Rattle.line.specs.Read.{fieldIn, withIdentifier, decoded, readAnswer}
 use Rattle.line.specs.declared.Line.the-variants.{Frame, Refused}
 use Rattle.line.proofs.ReadAnswers.{read-stopped}
 use Rattle.line.proofs.FirstProblem.{OfBits, stopped-at, stopped-stays, cut-before, cut-short, made-longer}

@@ -15,11 +15,11 @@ use Rattle.bits.specs.Below.{Below}
 use Rattle.bits.specs.Rows.{number}
 use Rattle.bits.proofs.Below.{below-drop}
 use Rattle.crc.specs.Crc.{crc}
-use Rattle.line.specs.Fields.{fieldsOf, form}
-use Rattle.line.specs.Scan.{dlcIn, crcStart, complete, dlcRefused, crcRight}
-use Rattle.line.proofs.Verdicts.{dlc-taken, taken-dlc}
+use Rattle.scanning.specs.Fields.{fieldsOf, form}
+use Rattle.scanning.specs.Scan.{dlcIn, crcStart, complete, dlcRefused, crcRight}
+use Rattle.scanning.proofs.Verdicts.{dlc-taken, taken-dlc}
+use Rattle.scanning.proofs.Partial.{start-least, dlc-stays, start-stays, must-stays}
 use Rattle.line.proofs.Sound.{dlcWrong, crcWrong, Next, Sound}
-use Rattle.line.proofs.Partial.{start-least, dlc-stays, start-stays, must-stays}
 use Rattle.line.proofs.Fits.{Fits, fits-at, at-fits}
 
 pub record Right (frame : List ℕ) : Type 0 where

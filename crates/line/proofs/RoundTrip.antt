@@ -25,8 +25,9 @@ use Rattle.decoding.proofs.Accepted.{accepted}
 use Rattle.decoding.proofs.RoundTrip.{decode-encode, payload-of-field, field-of-payload}
 use Rattle.frame.specs.Line.{frameLine}
 use Rattle.frame.specs.Answers.{payloadLine}
-use Rattle.line.specs.Scan.{Scanned, whole, stopped, scanned}
-use Rattle.line.specs.Read.{identifierIn, fieldIn, withIdentifier, decoded, readAnswer, payloadIn}
+use Rattle.scanning.specs.Scan.{Scanned, whole, stopped, scanned}
+use Rattle.scanning.specs.Held.{identifierIn}
+use Rattle.line.specs.Read.{fieldIn, withIdentifier, decoded, readAnswer, payloadIn}
 use Rattle.line.specs.Ack.{withAck}
 use Rattle.line.specs.declared.Line.the-variants.{Frame}
 use Rattle.line.proofs.OnLine.{lineFrom, sound-whole, whole-sound}

@@ -21,12 +21,13 @@ use Rattle.refusals.specs.Table.{placeOf, answerNumbers}
 use Rattle.refusals.proofs.Table.{number-in-table}
 use Rattle.decoding.specs.Decode.{decodeAnswer}
 use Rattle.decoding.proofs.Small.{decode-small}
-use Rattle.line.specs.Scan.{dlcIn, crcStart, complete, stuffDue, Verdict, right, wrong, verdict, runWith, frameWith, Scanned, whole, stopped, onward, scan, scanned}
-use Rattle.line.specs.Read.{identifierIn, fieldIn, withIdentifier, decoded, readAnswer, answerOf}
+use Rattle.scanning.specs.Scan.{dlcIn, crcStart, complete, stuffDue, Verdict, right, wrong, verdict, runWith, frameWith, Scanned, whole, stopped, onward, scan, scanned}
+use Rattle.scanning.specs.Held.{identifierIn}
+use Rattle.scanning.proofs.Verdicts.{taken-dlc}
+use Rattle.scanning.proofs.Partial.{dlc-stays}
+use Rattle.line.specs.Read.{fieldIn, withIdentifier, decoded, readAnswer, answerOf}
 use Rattle.line.specs.declared.Line.{Line}
 use Rattle.line.specs.declared.Line.the-variants.{Frame, Refused}
-use Rattle.line.proofs.Verdicts.{taken-dlc}
-use Rattle.line.proofs.Partial.{dlc-stays}
 use Rattle.line.proofs.Sound.{Next, bit-right, stuff-right}
 use Rattle.line.proofs.FirstProblem.{At, verdict-at, never, stopped-only}
 use Rattle.line.proofs.RoundTrip.{accepted-is-coded}

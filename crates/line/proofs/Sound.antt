@@ -16,8 +16,8 @@ use borrow.Author.Tests.{ltb-false, eqb-true, eqb-false, lt-leb}
 use Rattle.bits.specs.declared.Run.{Run}
 use Rattle.refusals.specs.declared.Refusal.{Refusal}
 use Rattle.frame.specs.Line.{stuffedCrcBits}
-use Rattle.line.specs.Scan.{crcStart, complete, stuffDue, mustBe, dlcRefused, crcRight, shown, Verdict, right, wrong, verdict}
-use Rattle.line.proofs.Verdicts.{stuff-bit, frame-bit}
+use Rattle.scanning.specs.Scan.{crcStart, complete, stuffDue, mustBe, dlcRefused, crcRight, shown, Verdict, right, wrong, verdict}
+use Rattle.scanning.proofs.Verdicts.{stuff-bit, frame-bit}
 
 abbrev pub dlcWrong : List ℕ → Bool
 dlcWrong frame = eqb (length frame) 19 && dlcRefused frame

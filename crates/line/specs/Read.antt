@@ -1,21 +1,18 @@
 -- The answer of reading a line, and the payload that it gives. Assumes nothing.
 use Prim.Native.Nat.{ℕ}
 use mathlib.Core.List.{List, [], _∷_}
-use lib.ListN.{take, drop}
-use Rattle.bits.specs.Rows.{number}
+use lib.ListN.{drop}
 use Rattle.bits.specs.Packing.{packed}
 use Rattle.refusals.specs.declared.Answer.{Answer}
 use Rattle.refusals.specs.declared.Answer.the-variants as answer
 use Rattle.refusals.specs.Table.{numberOf, placeOf}
 use Rattle.decoding.specs.Decode.{decodeAnswer, payloadOf}
-use Rattle.line.specs.Scan.{dlcIn, Scanned, whole, stopped, scanned}
+use Rattle.scanning.specs.Scan.{dlcIn, Scanned, whole, stopped, scanned}
+use Rattle.scanning.specs.Held.{identifierIn}
 use Rattle.line.specs.declared.Line.{Line}
 use Rattle.line.specs.declared.Line.the-variants.{Frame, Refused}
 
--- the identifier and the data field among the frame's bits
-unfoldable pub identifierIn : List ℕ → ℕ
-identifierIn frame = number 0 (take 11 (drop 1 frame))
-
+-- the data field among the frame's bits
 unfoldable pub fieldIn : List ℕ → List ℕ
 fieldIn frame = packed 8 (dlcIn frame) (drop 19 frame)
 

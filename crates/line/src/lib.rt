@@ -6,17 +6,10 @@ ghost use lib.ListN.{length};
 ghost use Rattle.refusals.specs.After.{after};
 ghost use Rattle.line.specs.Read.{readAnswer, payloadIn, answerOf};
 
-mod bit;
 mod data_field;
-mod field_end;
-mod fields;
-mod places;
-mod scanning;
-mod seen;
-mod stuffing;
 
 use refusals::Refusal;
-use seen::Step;
+use scanning::Held;
 
 // What a line holds: an identifier and a payload, of which this is the length; or a refusal.
 pub enum Line {
@@ -31,7 +24,11 @@ pub fn read_line(line: &[u8], payload: &mut [u8]) -> Line
     ensures memory { λ r. ⌜ now (payload .exit) ≡ after (answerOf r) (payloadIn (now (line .entry))) (now (payload .entry)) ⌝ }
 {
     match scanning::scan(line) {
-        Step::Next(seen) => data_field::decode(seen, payload),
-        Step::Refused(refusal) => Line::Refused(refusal),
+        Held::Frame {
+            identifier,
+            n,
+            field,
+        } => data_field::decode(identifier, n, field, payload),
+        Held::Refused(refusal) => Line::Refused(refusal),
     }
 }

@@ -4,30 +4,27 @@ use lib.ListN.{length}
 use borrow.Author.Needs.{needs}
 use Rattle.refusals.specs.After.{after}
 use Rattle.refusals.specs.declared.Answer.{Answer}
+use Rattle.field.specs.Coded.{fieldFrom}
 use Rattle.decoding.specs.Decode.{decodeAnswer, payloadOf}
 use Rattle.line.specs.Read.{withIdentifier}
-use Rattle.line.specs.Steps.{identifierHeld, fieldHeld}
 use Rattle.line.proofs.data_field.decode.Statement.{statement}
 use Rattle.line.proofs.data_field.decode.Tie as tie
-
-cast-identifier : tie.Need-cast-identifier
-cast-identifier c = search needs
 
 decode-number-requires : tie.Need-decode-number-requires
 decode-number-requires c κs = search needs
 
 -- what decoding answered and left, in its case
 said : (c : tie.After-decode-number) (a : Answer) → c .decode-number .result ≡ a →
-    let args = c .before .before .before .before .before .args in
-    let field = fieldHeld (args .seen) in
-    (withIdentifier (identifierHeld (args .seen)) a
-    ≡ withIdentifier (identifierHeld (args .seen)) (decodeAnswer field (length (args .payload .now))))
+    let args = c .before .before .before .args in
+    let field = fieldFrom (args .n) (args .field) in
+    (withIdentifier (args .identifier) a
+    ≡ withIdentifier (args .identifier) (decodeAnswer field (length (args .payload .now))))
     × (c .decode-number .last .1 .1 .0 ≡ after a (payloadOf field) (args .payload .now))
 said c a e =
-    let args = c .before .before .before .before .before .args in
+    let args = c .before .before .before .args in
     let said = c .decode-number .ensures in (
-      ap (withIdentifier (identifierHeld (args .seen))) (sym e ∙ said .0),
-      said .1 ∙ ap (λ (x : Answer). after x (payloadOf (fieldHeld (args .seen))) (args .payload .now)) e,
+      ap (withIdentifier (args .identifier)) (sym e ∙ said .0),
+      said .1 ∙ ap (λ (x : Answer). after x (payloadOf (fieldFrom (args .n) (args .field))) (args .payload .now)) e,
     )
 
 enum-known-length : tie.Need-enum-known-length
@@ -52,7 +49,6 @@ pub decode-spec : {M : Type 1} → statement M
 decode-spec =
     tie.close
     (tie.spec
-    cast-identifier
     decode-number-requires
     enum-known-length
     enum-known-refusal

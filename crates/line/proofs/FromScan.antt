@@ -1,0 +1,42 @@
+-- What scanning a line answered, in the terms of reading it. Assumes nothing.
+--     from-held       of a whole frame: decoding the data field of this number decides
+--     from-refused    the first problem met is the answer
+use mathlib.Core.Path.{_≡_, refl, sym, ap, ap₂, _∙_}
+use mathlib.Core.List.{List}
+use Prim.Native.Nat.{ℕ}
+use native.Mathlib.Omega.{arith}
+use Rattle.refusals.specs.declared.Refusal.{Refusal}
+use Rattle.field.specs.Coded.{fieldFrom}
+use Rattle.decoding.specs.Decode.{decodeAnswer, payloadOf}
+use Rattle.scanning.specs.Scan.{dlcIn, Scanned, whole, stopped, scanned}
+use Rattle.scanning.specs.Held.{identifierIn, dataIn, heldIn}
+use Rattle.scanning.specs.declared.Held.the-variants as held
+use Rattle.line.specs.Read.{fieldIn, withIdentifier, readAnswer, payloadIn}
+use Rattle.line.specs.declared.Line.the-variants.{Refused}
+use Rattle.line.proofs.ReadAnswers.{read-stopped, read-whole, payload-whole}
+use Rattle.line.proofs.FrameOf.{field-there}
+use Rattle.line.proofs.RoundTrip.{line-scanned}
+
+module _ (line : List ℕ) where
+  pub from-held : (identifier n v room : ℕ) → heldIn (scanned line) ≡ held.Frame identifier n v
+      → (withIdentifier identifier (decodeAnswer (fieldFrom n v) room) ≡ readAnswer line room) × (payloadOf (fieldFrom n v) ≡ payloadIn line)
+  from-held identifier n v room e = go (scanned line) refl e
+    where
+      go : (s : Scanned) → scanned line ≡ s → heldIn s ≡ held.Frame identifier n v
+          → (withIdentifier identifier (decodeAnswer (fieldFrom n v) room) ≡ readAnswer line room) × (payloadOf (fieldFrom n v) ≡ payloadIn line)
+      go (stopped refusal) p q = let z : _≡_ {A = ℕ} 0 1 = cc in absurd (omega arith)
+      go (whole frame) p q =
+          let same : identifier ≡ identifierIn frame = cc in
+          let bytes : n ≡ dlcIn frame = cc in
+          let data-bits : v ≡ dataIn frame = cc in
+          let field : fieldFrom n v ≡ fieldIn frame = ap₂ fieldFrom bytes data-bits ∙ field-there frame (line-scanned line frame p .0) in (
+            ap₂ (λ (i : ℕ) (l : List ℕ). withIdentifier i (decodeAnswer l room)) same field ∙ sym (read-whole line frame room p),
+            ap payloadOf field ∙ sym (payload-whole line frame p),
+          )
+
+  pub from-refused : (room : ℕ) (refusal : Refusal) → heldIn (scanned line) ≡ held.Refused refusal → readAnswer line room ≡ Refused refusal
+  from-refused room refusal e = go (scanned line) refl e
+    where
+      go : (s : Scanned) → scanned line ≡ s → heldIn s ≡ held.Refused refusal → readAnswer line room ≡ Refused refusal
+      go (stopped r) p q = read-stopped line room r p ∙ ap Refused cc
+      go (whole frame) p q = let z : _≡_ {A = ℕ} 0 1 = cc in absurd (omega arith)

@@ -1,0 +1,386 @@
+-- From row to row. Assumes nothing.
+--     row-width, bit-is    what the code finds of a row, how many bits it has and which must stand there
+--     row-bits        and which it may be
+--     line-begins     before the first row
+--     field-begins    into a row
+--     Ends, field-ends    where reading stops in it: to the next one, or the line is refused as the definition says
+--     line-longer     behind the last row: the line goes on,
+--     line-read       or it is read
+use mathlib.Core.Path.{_≡_, refl, sym, ap, _∙_, subst}
+use mathlib.Core.Bool.{Bool, true, false, cond, _&&_, _||_}
+use mathlib.Core.List.{List, [], _++_}
+use Prim.Native.Nat.{ℕ, zero, suc, _+_, _-_, _*_, _%_, _≤_, _<_}
+use native.Mathlib.Omega.{arith}
+use lib.Dec.{eqb, leb, ltb, lit<, T}
+use lib.ListN.{length, getD, drop-of-length-le}
+use lib.Seq.{drop-cons, getD-set-other}
+use borrow.Author.Tests.{lt-ltb, le-ltb, eq-eqb, ne-eqb, leb-true, ltb-true, ltb-false, eqb-true, eqb-false}
+use mir.Facts.{and-yes}
+use Rattle.bits.specs.Rows.{bits, number}
+use Rattle.bits.specs.declared.Run.{Run}
+use Rattle.bits.specs.Stuffing.{nothingSent}
+use Rattle.bits.proofs.Everywhere.{everywhere, everywhere-at}
+use Rattle.refusals.specs.declared.Refusal.the-variants.{FieldLength, LineLength}
+use Rattle.crc.specs.Crc.{crc}
+use Rattle.crc.specs.Dlc.{dataBytes}
+use Rattle.scanning.specs.Fields.{fixed, free}
+use Rattle.scanning.specs.Scan.{dlcIn, complete, crcStart, crcRight, Verdict, right, shown, stopped, onward, scan, scanned}
+use Rattle.scanning.specs.Held.{identifierIn, dataIn}
+use Rattle.scanning.specs.Steps.{rowsOf, least, headerRead, fieldRead, crcRead, partEnd, fieldEnd, Holds, Reads}
+use Rattle.scanning.specs.declared.fields.Field.{Field}
+use Rattle.scanning.specs.declared.seen.Seen.{Seen}
+use Rattle.scanning.specs.declared.seen.Step.{Step}
+use Rattle.scanning.specs.declared.seen.Step.the-variants.{Next, Refused}
+use Rattle.scanning.proofs.Positions.{rowAt, startOf, endOf, end-is, next-start, Stage, before-dlc, dlc, data-bits, crc-bits, ending, stage, first-start, data-start, frame-end}
+use Rattle.scanning.proofs.Registers.{Fine, Registers, in-header, in-data, in-crc, behind, crc-length, dlc-known, dlc-read, header-put, field-put, crc-there, identifier-there, data-there}
+use Rattle.scanning.proofs.Verdicts.{bit-too-many, dlc-taken, taken-dlc, length-refused, crc-refused, nothing-shown}
+use Rattle.scanning.proofs.RawBits.{none}
+use Rattle.scanning.proofs.Keeping.{bytes, dataBits, rest, pending, Between, Within, least-not, missing}
+
+-- only the data field hangs on the DLC
+other-field : (f n : ℕ) → (f ≡ 4 → ⊥) → rowAt f (rowsOf n) ≡ rowAt f (rowsOf 0)
+unfolding rowsOf
+other-field f n h = getD-set-other (rowsOf 0) 4 f (free (8 * n)) (fixed 0 0) h
+
+width-is : (f n : ℕ) → rowAt f (rowsOf 0) .bits + dataBits f n ≡ rowAt f (rowsOf n) .bits
+unfolding rowsOf
+width-is f n = go (eqb f 4) refl
+  where
+    go : (t : Bool) → eqb f 4 ≡ t → rowAt f (rowsOf 0) .bits + cond t (8 * n) 0 ≡ rowAt f (rowsOf n) .bits
+    go true e = let i = eqb-true f 4 e in rw i (omega arith)
+    go false e = let same = ap (λ (x : Field). x .bits) (other-field f n (eqb-false f 4 e)) in omega arith
+
+pub row-width : (fields : List Field) (f n count : ℕ) → fields ≡ rowsOf 0 → count ≡ dataBits f n
+    → rowAt f fields .bits + count ≡ rowAt f (rowsOf n) .bits
+row-width fields f n count e d = rw (e, d) (width-is f n)
+
+pub bit-is : (f n : ℕ) → rowAt f (rowsOf 0) .bit ≡ rowAt f (rowsOf n) .bit
+unfolding rowsOf
+bit-is f n = go (eqb f 4) refl
+  where
+    go : (t : Bool) → eqb f 4 ≡ t → rowAt f (rowsOf 0) .bit ≡ rowAt f (rowsOf n) .bit
+    go true e = let i = eqb-true f 4 e in rw i refl
+    go false e = sym (ap (λ (x : Field). x .bit) (other-field f n (eqb-false f 4 e)))
+
+-- the rows as the code asks for them: up to the CRC no bit must be 1, behind it none 0
+row-test : ℕ → Bool
+row-test f =
+    let bit = rowAt f (rowsOf 0) .bit in
+    leb bit 2 && cond (ltb 5 f) (ltb 0 bit) (eqb (bit % 2) 0)
+
+row-tested : T (everywhere row-test 9)
+unfolding row-test rowsOf
+row-tested = tt
+
+pub row-bits : (f : ℕ) → f < 9 →
+    let bit = rowAt f (rowsOf 0) .bit in
+    (bit ≤ 2) × (f ≤ 5 → bit % 2 ≡ 0) × (5 < f → 0 < bit)
+unfolding row-test
+row-bits f h =
+    let bit = rowAt f (rowsOf 0) .bit in
+    let both = and-yes (leb bit 2) (cond (ltb 5 f) (ltb 0 bit) (eqb (bit % 2) 0)) (everywhere-at row-test 9 row-tested f h) in (
+      leb-true _ _ (told (leb bit 2) (both .0)),
+      λ g. eqb-true _ _ (told (eqb (bit % 2) 0) (rw (le-ltb 5 f g) at (both .1))),
+      λ g. ltb-true _ _ (told (ltb 0 bit) (rw (lt-ltb 5 f g) at (both .1))),
+    )
+  where
+    told : (t : Bool) → T t → t ≡ true
+    told true x = refl
+    told false x = absurd x
+
+-- only the data row has data bits
+no-data : (f n : ℕ) → (f ≡ 3 → ⊥) → (f ≡ 4 → ⊥) → dataBits f n ≡ dataBits (f + 1) n
+no-data f n not-dlc not-data = rw (ne-eqb f 4 not-data, ne-eqb (f + 1) 4 (λ e. not-dlc (omega arith))) refl
+
+-- behind a row other than DLC and CRC the frame shows nothing
+nothing-behind : (f header field n : ℕ) (frame : List ℕ) (place : ℕ) → f < 9 → (f ≡ 3 → ⊥) → (f ≡ 5 → ⊥)
+    → length frame ≡ endOf f (header % 16) → Registers f header field n frame → shown frame place ≡ right
+unfolding crcStart
+nothing-behind f header field n frame place h not-dlc not-crc at registers = go (stage f (header % 16) h) registers
+  where
+    known : 3 < f → dlcIn frame ≡ header % 16
+    known = dlc-known f header field n frame registers
+
+    go : Stage f (header % 16) → Registers f header field n frame → shown frame place ≡ right
+    go (before-dlc g e) r = nothing-shown frame place (λ d. absurd (omega (arith, at))) (λ d. absurd (omega (arith, at)))
+    go (dlc g e) r = absurd (not-dlc g)
+    go (data-bits g s e) (in-header i d l) = absurd (omega arith)
+    go (data-bits g s e) (in-data k i fine d l) =
+        let is = known (omega arith) in
+        nothing-shown frame place (λ d. dlc-taken frame (λ one. fine .not-one (sym is ∙ one)) (omega (arith, fine .few, is)))
+        (λ d. absurd (omega (arith, at, is)))
+    go (data-bits g s e) (in-crc k i put d l) = absurd (omega arith)
+    go (data-bits g s e) (behind m i put d l) = absurd (omega arith)
+    go (crc-bits g s e) r = absurd (not-crc g)
+    go (ending g s o e) r = nothing-shown frame place (λ d. absurd (omega (arith, at))) (λ d. absurd (omega (arith, at, known (omega arith))))
+
+-- into a row: its bits are all to come
+abbrev pub begun : List ℕ → Seen → ℕ → Seen
+begun line seen end =
+    record {
+      stop = least end (length line);
+      end = end;
+      place = seen .place;
+      raw = seen .raw;
+      number = seen .number;
+      header = seen .header;
+      field = seen .field;
+      «data_bits» = seen .«data_bits»;
+    }
+
+pub field-begins : (line : List ℕ) (f : ℕ) (seen : Seen) (run : Run) (frame : List ℕ) (own more : ℕ)
+    → f < 9 → own + more ≡ rowAt f (rowsOf (bytes seen)) .bits → Between line f seen run frame
+    → Within line f (begun line seen (seen .place + own + more)) run (own + more) frame
+unfolding rowsOf
+field-begins line f seen run frame own more h e b =
+    record {
+      leads = b .leads ∙ ap (λ (v : Verdict). onward v (rest line seen run frame)) (sym (nothing count refl));
+      end-is = omega arith;
+      stop-is = refl;
+      at-is = end;
+      from = omega (arith, b .at-is);
+      data-bits-is = b .data-bits-is;
+      registers = b .registers;
+      told = b .told;
+      fresh = b .fresh;
+      reached = b .reached;
+      behind = b .behind;
+    }
+  where
+    count : ℕ
+    count = own + more
+
+    end : length frame + count ≡ endOf f (bytes seen)
+    end = omega (arith, b .at-is, e, end-is f (bytes seen))
+
+    some : (k : ℕ) → 0 < rowAt k (rowsOf (bytes seen)) .bits → count ≡ 0 → f ≡ k → ⊥
+    some k p z i =
+        let same : rowAt f (rowsOf (bytes seen)) .bits ≡ rowAt k (rowsOf (bytes seen)) .bits = rw i refl in
+        omega (arith, e, same)
+
+    nothing : (k : ℕ) → count ≡ k → pending k frame (seen .place) ≡ right
+    nothing zero d =
+        nothing-behind f (seen .header) (seen .field) (seen .number) frame (seen .place - 1) h (some 3 (lit< tt) d) (some 5 (lit< tt) d)
+        (omega (arith, end)) (b .registers)
+    nothing (suc k) d = refl
+
+-- before the first row
+pub line-begins : (line : List ℕ)
+    → Between line 0 (record { stop = 0; end = 0; place = 0; raw = 1; number = 0; header = 0; field = 0; «data_bits» = 0 }) nothingSent []
+unfolding scanned bits
+line-begins line =
+    record {
+      leads = refl;
+      at-is = sym (first-start 0);
+      data-bits-is = refl;
+      registers = in-header (omega arith) refl (lit< tt);
+      told = λ h. none refl refl refl;
+      fresh = λ e. refl;
+      reached = omega arith;
+      behind = omega arith;
+    }
+
+-- ---- behind a row's last bit
+
+-- the registers do not change where no part ends
+passed-on : (f header field n : ℕ) (frame : List ℕ) → (f ≡ 3 → ⊥) → (f ≡ 4 → ⊥) → (f ≡ 5 → ⊥) → Registers f header field n frame
+    → Registers (f + 1) header field n frame
+passed-on f header field n frame not-dlc not-data not-crc (in-header g e l) = in-header (omega (arith, not-dlc)) e l
+passed-on f header field n frame not-dlc not-data not-crc (in-data k g fine e l) = absurd (not-data g)
+passed-on f header field n frame not-dlc not-data not-crc (in-crc k g put e l) = absurd (not-crc g)
+passed-on f header field n frame not-dlc not-data not-crc (behind m g put e l) = behind m (omega arith) put e l
+
+-- what the end of row f leads to
+abbrev pub Ends : List ℕ → ℕ → Run → List ℕ → Step → Type 0
+Ends line f run frame (Next next) = Between line (f + 1) next run frame
+Ends line f run frame (Refused refusal) = scanned line ≡ stopped refusal
+
+module _ (line : List ℕ) (f : ℕ) (seen : Seen) (run : Run) (left : ℕ) (frame : List ℕ) (h : f < 9)
+    (w : Within line f seen run left frame) (z : left ≡ 0) where
+  at : length frame ≡ endOf f (bytes seen)
+  at = omega (arith, w .at-is)
+
+  leads : (v : Verdict) → shown frame (seen .place - 1) ≡ v → scanned line ≡ onward v (rest line seen run frame)
+  leads v e =
+      w .leads ∙ ap (λ (k : ℕ). onward (pending k frame (seen .place)) (rest line seen run frame)) z
+      ∙ ap (λ (u : Verdict). onward u (rest line seen run frame)) e
+
+  nothing-here : (f ≡ 3 → ⊥) → (f ≡ 5 → ⊥) → shown frame (seen .place - 1) ≡ right
+  nothing-here not-dlc not-crc =
+      nothing-behind f (seen .header) (seen .field) (seen .number) frame (seen .place - 1) h not-dlc not-crc at (w .registers)
+
+  other-ends : (f ≡ 3 → ⊥) → (f ≡ 4 → ⊥) → (f ≡ 5 → ⊥) → Ends line f run frame (partEnd f seen)
+  unfolding partEnd
+  other-ends not-dlc not-data not-crc = rw (ne-eqb f 3 not-dlc, ne-eqb f 4 not-data, ne-eqb f 5 not-crc) (record {
+    leads = leads right (nothing-here not-dlc not-crc);
+    at-is = at ∙ next-start f (bytes seen);
+    data-bits-is = w .data-bits-is ∙ no-data f _ not-dlc not-data;
+    registers = passed-on f (seen .header) (seen .field) (seen .number) frame not-dlc not-data not-crc (w .registers);
+    told = λ g. w .told (omega (arith, g));
+    fresh = w .fresh;
+    reached = w .reached;
+    behind = w .behind;
+  })
+
+  header-ends : f ≡ 3 → endOf f (bytes seen) ≡ 19 → Ends line f run frame (headerRead seen)
+  unfolding headerRead crcStart
+  header-ends i end = read (w .registers)
+    where
+      nineteen : length frame ≡ 19
+      nineteen = at ∙ end
+
+      read : Registers f (seen .header) (seen .field) (seen .number) frame → Ends line f run frame (headerRead seen)
+      read (in-header g e l) = go (eqb (seen .number % 16) 1 || ltb 8 (seen .number % 16)) refl
+        where
+          n : ℕ
+          n = seen .number
+
+          there : dlcIn frame ≡ n % 16
+          there = dlc-read n frame nineteen e
+
+          go : (t : Bool) → (eqb (n % 16) 1 || ltb 8 (n % 16)) ≡ t
+              → Ends line f run frame (cond t (Refused (FieldLength (seen .place - 1))) (Next (record {
+                stop = seen .stop;
+                end = seen .end;
+                place = seen .place;
+                raw = seen .raw;
+                number = 0;
+                header = n;
+                field = seen .field;
+                «data_bits» = 8 * (n % 16);
+              })))
+          go true d = leads _ (length-refused frame (seen .place - 1) nineteen (rw there d))
+          go false d =
+              let taken = taken-dlc frame (rw there d) in
+              let fine : Fine n = record { not-one = λ one. taken .0 (there ∙ one); few = omega (arith, taken .1, there) } in
+              let next : f + 1 ≡ 4 = omega arith in
+              record {
+                leads = leads right (nothing-shown frame (seen .place - 1) (λ x. rw there d) (λ x. absurd (omega (arith, nineteen))));
+                at-is = nineteen ∙ sym (ap (λ (k : ℕ). startOf k (n % 16)) next ∙ data-start (n % 16));
+                data-bits-is = rw next refl;
+                registers =
+                    subst (λ (k : ℕ). Registers k n (seen .field) 0 frame) (sym next)
+                    (header-put (seen .field) n frame nineteen fine e);
+                told = λ g. w .told (omega (arith, g));
+                fresh = w .fresh;
+                reached = w .reached;
+                behind = w .behind;
+              }
+      read (in-data k g fine e l) = absurd (omega arith)
+      read (in-crc k g put e l) = absurd (omega arith)
+      read (behind m g put e l) = absurd (omega arith)
+
+  data-ends : f ≡ 4 → endOf f (bytes seen) ≡ 19 + 8 * bytes seen → Ends line f run frame (fieldRead seen)
+  unfolding fieldRead
+  data-ends i end = read (w .registers)
+    where
+      next : f + 1 ≡ 5
+      next = omega arith
+
+      read : Registers f (seen .header) (seen .field) (seen .number) frame → Ends line f run frame (fieldRead seen)
+      read (in-header g e l) = absurd (omega arith)
+      read (in-data k g fine e l) =
+          record {
+            leads = leads right (nothing-here (λ d. omega arith) (λ d. omega arith));
+            at-is = at ∙ next-start f (bytes seen);
+            data-bits-is = rw next refl;
+            registers =
+                subst (λ (k : ℕ). Registers k (seen .header) (seen .number) 0 frame) (sym next)
+                (field-put (seen .header) (seen .number) k frame (at ∙ end) fine e l);
+            told = λ g. w .told (omega (arith, g));
+            fresh = w .fresh;
+            reached = w .reached;
+            behind = w .behind;
+          }
+      read (in-crc k g put e l) = absurd (omega arith)
+      read (behind m g put e l) = absurd (omega arith)
+
+  crc-ends : f ≡ 5 → endOf f (bytes seen) ≡ 34 + 8 * bytes seen → Ends line f run frame (crcRead seen)
+  unfolding crcRead crcStart
+  crc-ends i end = read (w .registers)
+    where
+      read : Registers f (seen .header) (seen .field) (seen .number) frame → Ends line f run frame (crcRead seen)
+      read (in-header g e l) = absurd (omega arith)
+      read (in-data k g fine e l) = absurd (omega arith)
+      read (behind m g put e l) = absurd (omega arith)
+      read (in-crc k g put e l) = go (crcRight frame) refl
+        where
+          there : crcRight frame ≡ eqb (seen .number) (crc (bits 19 (seen .header) ++ bits (8 * dataBytes (bytes seen)) (seen .field)))
+          there = crc-there (seen .header) (seen .field) (seen .number) k frame (put .fine) e l
+
+          last : length frame ≡ 19 + 8 * dlcIn frame + 15
+          last = omega (arith, at, end, dlc-known f (seen .header) (seen .field) (seen .number) frame (w .registers) (omega arith))
+
+          fifteen : k ≡ 15
+          fifteen = omega (arith, at, end, crc-length (seen .header) (seen .field) (seen .number) k frame e)
+
+          go : (t : Bool) → crcRight frame ≡ t → Ends line f run frame (crcRead seen)
+          go true d = rw (sym there ∙ d) (record {
+            leads = leads right (nothing-shown frame (seen .place - 1) (λ x. absurd (omega (arith, last))) (λ x. d));
+            at-is = at ∙ next-start f (bytes seen);
+            data-bits-is = w .data-bits-is ∙ no-data f _ (λ x. omega arith) (λ x. omega arith);
+            registers = behind (bits k (seen .number)) (omega arith) put e (rw fifteen at l);
+            told = λ g. w .told (omega (arith, g));
+            fresh = w .fresh;
+            reached = w .reached;
+            behind = w .behind;
+          })
+          go false d = rw (sym there ∙ d) (leads _ (crc-refused frame (seen .place - 1) last d))
+
+  part-ends : Ends line f run frame (partEnd f seen)
+  unfolding partEnd
+  part-ends = go (stage f (bytes seen) h)
+    where
+      go : Stage f (bytes seen) → Ends line f run frame (partEnd f seen)
+      go (before-dlc g e) = other-ends (λ d. omega arith) (λ d. omega arith) (λ d. omega arith)
+      go (dlc g e) = rw (eq-eqb f 3 g) (header-ends g e)
+      go (data-bits g s e) = rw (ne-eqb f 3 (λ d. omega arith), eq-eqb f 4 g) (data-ends g e)
+      go (crc-bits g s e) = rw (ne-eqb f 3 (λ d. omega arith), ne-eqb f 4 (λ d. omega arith), eq-eqb f 5 g) (crc-ends g e)
+      go (ending g s o e) = other-ends (λ d. omega arith) (λ d. omega arith) (λ d. omega arith)
+
+-- where reading stops in the row
+pub field-ends : (line : List ℕ) (f : ℕ) (seen : Seen) (run : Run) (left : ℕ) (frame : List ℕ) → f < 9 → Within line f seen run left frame
+    → seen .stop ≤ seen .place → Ends line f run frame (fieldEnd f seen)
+unfolding fieldEnd
+field-ends line f seen run left frame h w over = go (ltb (seen .place) (seen .end)) refl
+  where
+    go : (t : Bool) → ltb (seen .place) (seen .end) ≡ t
+        → Ends line f run frame (cond t (Refused (LineLength (seen .place))) (partEnd f seen))
+    go true d =
+        let before = ltb-true (seen .place) (seen .end) d in
+        missing line f seen run left frame h w (omega (arith, w .end-is))
+        (least-not (seen .end) (length line) (seen .place) (rw (w .stop-is) at over) before)
+    go false d =
+        part-ends line f seen run left frame h w (omega (arith, w .end-is, ltb-false (seen .place) (seen .end) d))
+
+-- ---- behind the last row
+
+module _ (line : List ℕ) (seen : Seen) (run : Run) (frame : List ℕ) (b : Between line 9 seen run frame) where
+  known : dlcIn frame ≡ bytes seen
+  known = dlc-known 9 (seen .header) (seen .field) (seen .number) frame (b .registers) (lit< tt)
+
+  ended : complete frame ≡ true
+  unfolding complete crcStart
+  ended = eq-eqb (length frame) (19 + 8 * dlcIn frame + 25) (omega (arith, b .at-is, frame-end (bytes seen), known))
+
+  pub line-longer : seen .place < length line → scanned line ≡ stopped (LineLength (seen .place))
+  unfolding scan
+  line-longer h =
+      b .leads ∙ ap (scan run frame (seen .place)) (drop-cons line (seen .place) 0 h)
+      ∙ rw (bit-too-many run frame (seen .place) (getD line (seen .place) 0) ended) refl
+
+  pub line-read : length line ≤ seen .place → Reads (Next seen) (scanned line)
+  unfolding scan
+  line-read h =
+      (frame, b .leads ∙ ap (scan run frame (seen .place)) (drop-of-length-le line h) ∙ rw ended refl, holds (b .registers))
+    where
+      holds : Registers 9 (seen .header) (seen .field) (seen .number) frame → Holds seen frame
+      holds (in-header g e l) = absurd (omega arith)
+      holds (in-data k g fine e l) = absurd (omega arith)
+      holds (in-crc k g put e l) = absurd (omega arith)
+      holds (behind m g put e l) =
+          record {
+            identifier-is = sym (ap identifierIn e ∙ identifier-there (seen .header) _);
+            dlc-is = sym known;
+            data-is = sym (ap dataIn e ∙ data-there (seen .header) (seen .field) _ (put .within));
+          }

@@ -1,0 +1,419 @@
+-- While a line is read, what is left of it leads where the whole leads, and the registers hold the frame's bits. Assumes nothing.
+--     Between, Within    before a row, and in it, with so many bits to come; behind its last bit what the frame shows is still to be looked at
+--     dataBits           the data bits that a row has
+--     least-both, least-not    places before the one that comes first, and behind it
+--     Goes, bit-goes     a bit of the frame, with the stuff bit before it: both are right, or the line is refused as the definition says
+--     must-stand         the bit that must stand next
+--     number-small, end-small    the number of a part and the place of the row's end leave room for one more bit
+--     missing            the line ends in the row
+use mathlib.Core.Path.{_≡_, refl, sym, ap, _∙_}
+use mathlib.Core.Bool.{Bool, true, false, cond}
+use mathlib.Core.List.{List, [], _∷_, _++_}
+use mathlib.Core.Logic.{_⊎_, inl, inr}
+use Prim.Native.Nat.{ℕ, zero, suc, _+_, _-_, _*_, _%_, _^_, _≤_, _<_}
+use native.Mathlib.Nat.{lt-of-lt-of-le}
+use native.Mathlib.Numerals.{add-one}
+use native.Mathlib.Omega.{arith}
+use lib.Dec.{eqb, leb, ltb}
+use lib.Pow.{pow-mono}
+use lib.ListN.{length, drop, drop-of-length-le}
+use lib.Seq.{drop-cons}
+use borrow.Author.Tests.{lt-ltb, le-ltb, ne-eqb, ltb-true, ltb-false, leb-true, leb-false, eqb-true, eqb-false}
+use Rattle.bits.specs.declared.Run.{Run}
+use Rattle.bits.specs.Stuffing.{counted}
+use Rattle.refusals.specs.declared.Refusal.the-variants.{LineByte, StuffBit, LineLength, FixedBit}
+use Rattle.scanning.specs.Fields.{fieldsOf, form}
+use Rattle.scanning.specs.Scan.{dlcIn, complete, crcStart, stuffDue, mustBe, Verdict, right, shown, verdict, runWith, frameWith, Scanned, stopped, onward, scan, scanned}
+use Rattle.scanning.specs.Steps.{rowsOf, least, bitAt, behindStuffBit, oneOn, behindBit, behindEnding, dueIn, stuffBit, passed, judgedBit, fieldBit, endingBit, andThen, lineBit}
+use Rattle.scanning.specs.declared.seen.Seen.{Seen}
+use Rattle.scanning.specs.declared.seen.Step.{Step}
+use Rattle.scanning.specs.declared.seen.Step.the-variants.{Next, Refused}
+use Rattle.scanning.proofs.Positions.{rowAt, startOf, endOf, data-from, ending-from, header-end, data-end, crc-end, end-within, early-or-known, must-is, dueAt, due-is, not-complete}
+use Rattle.scanning.proofs.RawBits.{Tells, five-told, bit-told, told-more, told-stuff}
+use Rattle.scanning.proofs.Registers.{Registers, in-header, in-data, in-crc, behind, bit-added, ending-added, longer, data-length, crc-length, dlc-known}
+use Rattle.scanning.proofs.Verdicts.{byte-above-1, sixth-bit, stuff-bit, fixed-bit, frame-bit, nothing-shown}
+
+-- the bytes of the data field, as the code has them
+abbrev pub bytes : Seen → ℕ
+bytes seen = seen .header % 16
+
+-- and its bits, as far as the present row has them
+abbrev pub dataBits : ℕ → ℕ → ℕ
+dataBits f n = cond (eqb f 4) (8 * n) 0
+
+-- what is left of the line
+abbrev pub rest : List ℕ → Seen → Run → List ℕ → Scanned
+rest line seen run frame = scan run frame (seen .place) (drop (seen .place) line)
+
+-- behind a row's last bit the frame is still to be looked at
+abbrev pub pending : ℕ → List ℕ → ℕ → Verdict
+pending zero frame place = shown frame (place - 1)
+pending (suc left) frame place = right
+
+pending-none : (left : ℕ) (frame : List ℕ) (place : ℕ) → 0 < left → pending left frame place ≡ right
+pending-none zero frame place h = absurd (omega arith)
+pending-none (suc left) frame place h = refl
+
+-- before row f; the run is what the raw bits tell, up to the CRC
+pub record Between (line : List ℕ) (f : ℕ) (seen : Seen) (run : Run) (frame : List ℕ) : Type 0 where
+  pub leads : scanned line ≡ rest line seen run frame
+  pub at-is : length frame ≡ startOf f (bytes seen)
+  pub data-bits-is : seen .«data_bits» ≡ dataBits f (bytes seen)
+  pub registers : Registers f (seen .header) (seen .field) (seen .number) frame
+  pub told : f ≤ 5 → Tells (seen .raw) run
+  pub fresh : run .count ≡ 0 → length frame ≡ 0
+  pub reached : seen .place ≤ length line
+  pub behind : length frame ≤ seen .place
+
+-- in row f, with so many bits to come
+pub record Within (line : List ℕ) (f : ℕ) (seen : Seen) (run : Run) (left : ℕ) (frame : List ℕ) : Type 0 where
+  pub leads : scanned line ≡ onward (pending left frame (seen .place)) (rest line seen run frame)
+  pub end-is : seen .place + left ≡ seen .end
+  pub stop-is : seen .stop ≡ least (seen .end) (length line)
+  pub at-is : length frame + left ≡ endOf f (bytes seen)
+  pub from : startOf f (bytes seen) ≤ length frame
+  pub data-bits-is : seen .«data_bits» ≡ dataBits f (bytes seen)
+  pub registers : Registers f (seen .header) (seen .field) (seen .number) frame
+  pub told : f ≤ 5 → Tells (seen .raw) run
+  pub fresh : run .count ≡ 0 → length frame ≡ 0
+  pub reached : seen .place ≤ length line
+  pub behind : length frame ≤ seen .place
+
+-- places before the one that comes first, and behind it
+pub least-both : (a b k : ℕ) → k < least a b → (k < a) × (k < b)
+unfolding least
+least-both a b k h = go (ltb a b) refl h
+  where
+    go : (t : Bool) → ltb a b ≡ t → k < cond t a b → (k < a) × (k < b)
+    go true e l = (l, omega (arith, ltb-true a b e))
+    go false e l = (omega (arith, ltb-false a b e), l)
+
+least-over : (a b k : ℕ) → k < a → k < b → k < least a b
+unfolding least
+least-over a b k g h = go (ltb a b)
+  where
+    go : (t : Bool) → k < cond t a b
+    go true = g
+    go false = h
+
+pub least-not : (a b k : ℕ) → least a b ≤ k → k < a → b ≤ k
+unfolding least
+least-not a b k h g = go (ltb a b) h
+  where
+    go : (t : Bool) → cond t a b ≤ k → b ≤ k
+    go true l = absurd (omega arith)
+    go false l = l
+
+counted-some : (run : Run) (b : ℕ) → counted run b ≡ 0 → ⊥
+counted-some run b = go (eqb b (run .bit))
+  where
+    go : (t : Bool) → cond t (run .count + 1) 1 ≡ 0 → ⊥
+    go true e = omega arith
+    go false e = omega arith
+
+-- start of frame must be 0
+must-first : (frame : List ℕ) → length frame ≡ 0 → mustBe frame ≡ 0
+unfolding mustBe fieldsOf form
+must-first frame e = rw e refl
+
+-- in a row, behind its first bit and before its last, nothing is shown
+shown-inside : (f n : ℕ) (frame : List ℕ) (place : ℕ) → startOf f n < length frame → length frame < endOf f n
+    → (3 < f → dlcIn frame ≡ n) → shown frame place ≡ right
+unfolding crcStart
+shown-inside f n frame place from to known =
+    nothing-shown frame place (λ e. absurd (header e (ltb 3 f) refl))
+    (λ e. absurd (check e (early-or-known f n frame known to) (ltb 5 f) refl))
+  where
+    header : length frame ≡ 19 → (t : Bool) → ltb 3 f ≡ t → ⊥
+    header e true d = omega (arith, from, data-from f n (ltb-true 3 f d))
+    header e false d = omega (arith, to, header-end f n (ltb-false 3 f d))
+
+    check : length frame ≡ 19 + 8 * dlcIn frame + 15 → (length frame < 19) ⊎ (dlcIn frame ≡ n) → (t : Bool) → ltb 5 f ≡ t → ⊥
+    check e (inl early) t d = omega arith
+    check e (inr is) true d = omega (arith, from, ending-from f n (ltb-true 5 f d))
+    check e (inr is) false d = omega (arith, to, crc-end f n (ltb-false 5 f d))
+
+-- what passing a stuff bit in row f leads to: none is due behind it
+abbrev Passes : List ℕ → ℕ → Seen → ℕ → List ℕ → Step → Type 0
+Passes line f seen left frame (Next next) =
+    (run : Run) × Within line f next run left frame × (stuffDue run frame ≡ false) × (next .place < next .stop) × (seen .place ≤ next .place)
+Passes line f seen left frame (Refused refusal) = scanned line ≡ stopped refusal
+
+-- what a step in row f leads to
+abbrev pub Goes : List ℕ → ℕ → Seen → Step → Type 0
+Goes line f seen (Next next) =
+    (run : Run) × (left : ℕ) × (frame : List ℕ) × Within line f next run left frame × (seen .place < length line) × (seen .place < next .place)
+Goes line f seen (Refused refusal) = scanned line ≡ stopped refusal
+
+-- in a row with bits to come
+module _ (line : List ℕ) (f : ℕ) (seen : Seen) (run : Run) (left : ℕ) (frame : List ℕ) (h : f < 9)
+    (w : Within line f seen run left frame) (some : 0 < left) where
+  to : length frame < endOf f (bytes seen)
+  to = omega (arith, w .at-is)
+
+  known : 3 < f → dlcIn frame ≡ bytes seen
+  known = dlc-known f (seen .header) (seen .field) (seen .number) frame (w .registers)
+
+  begun : complete frame ≡ false
+  begun = not-complete f (bytes seen) frame known (w .from) to h
+
+  leads : scanned line ≡ rest line seen run frame
+  leads = w .leads ∙ ap (λ (v : Verdict). onward v (rest line seen run frame)) (pending-none left frame (seen .place) some)
+
+  ends : (r : Run) (place : ℕ) → scan r frame place [] ≡ stopped (LineLength place)
+  unfolding scan
+  ends r place = rw begun refl
+
+  pub missing : length line ≤ seen .place → scanned line ≡ stopped (LineLength (seen .place))
+  missing e = leads ∙ ap (scan run frame (seen .place)) (drop-of-length-le line e) ∙ ends run (seen .place)
+
+  -- the bit that must stand next
+  pub must-stand : mustBe frame ≡ rowAt f (rowsOf (bytes seen)) .bit
+  must-stand = must-is f (bytes seen) frame known (w .from) to
+
+  pub number-small : seen .number < 2 ^ 63
+  number-small = small (w .registers)
+    where
+      below : (k : ℕ) → seen .number < 2 ^ k → k ≤ 63 → seen .number < 2 ^ 63
+      below k l g = lt-of-lt-of-le l (pow-mono g)
+
+      small : Registers f (seen .header) (seen .field) (seen .number) frame → seen .number < 2 ^ 63
+      small (in-header g e l) = below _ l (omega (arith, to, header-end f (bytes seen) g))
+      small (in-data k g fine e l) =
+          below k l (omega (arith, to, fine .few, data-end f (bytes seen) (omega arith), data-length (seen .header) (seen .number) k frame e))
+      small (in-crc k g put e l) =
+          below k l (omega (arith, to, end-within f (bytes seen) h, crc-length (seen .header) (seen .field) (seen .number) k frame e))
+      small (behind m g put e l) = below 15 l (omega arith)
+
+  pub end-small : seen .end ≤ length line + 164
+  end-small = omega (arith, w .end-is, w .at-is, w .reached, end-within f (bytes seen) h)
+
+  -- up to the CRC a stuff bit is due as the raw bits tell, behind it none is
+  due-told : f ≤ 5 → stuffDue run frame ≡ dueIn (seen .raw)
+  due-told g =
+      due-is f (bytes seen) frame known (w .from) to run ∙ rw (le-ltb 5 f g) (sym (five-told (seen .raw) run (w .told g)))
+
+  none-late : 5 < f → stuffDue run frame ≡ false
+  none-late g = due-is f (bytes seen) frame known (w .from) to run ∙ rw (lt-ltb 5 f g) refl
+
+  -- where one is due, the run is five long and the raw bits are looked at
+  due-five : stuffDue run frame ≡ true → (f ≤ 5) × (run .count ≡ 5)
+  due-five due = go (ltb 5 f) refl (sym (due-is f (bytes seen) frame known (w .from) to run) ∙ due)
+    where
+      go : (t : Bool) → ltb 5 f ≡ t → cond t false (eqb (run .count) 5) ≡ true → (f ≤ 5) × (run .count ≡ 5)
+      go true e d = let z : _≡_ {A = ℕ} 0 1 = cc in absurd (omega arith)
+      go false e d = (ltb-false 5 f e, eqb-true (run .count) 5 d)
+
+  module _ (inside : seen .place < length line) where
+    b : ℕ
+    b = bitAt line seen
+
+    went : (v : Verdict) → verdict run frame (seen .place) b ≡ v
+        → scanned line ≡ onward v (scan (runWith run b) (frameWith run frame b) (seen .place + 1) (drop (seen .place + 1) line))
+    unfolding scan b
+    went v d =
+        let here : drop (seen .place) line ≡ b ∷ drop (seen .place + 1) line =
+        drop-cons line (seen .place) 0 inside ∙ ap (λ (k : ℕ). b ∷ drop k line) (sym (add-one (seen .place))) in
+        leads ∙ ap (scan run frame (seen .place)) here
+        ∙ ap (λ (u : Verdict). onward u (scan (runWith run b) (frameWith run frame b) (seen .place + 1) (drop (seen .place + 1) line))) d
+
+    -- ---- a stuff bit
+
+    module _ (due : stuffDue run frame ≡ true) (bit : b ≤ 1) (n : b ≡ run .bit → ⊥) where
+      single : counted run b ≡ 1
+      single = simp (ne-eqb b (run .bit) n)
+
+      stuffed-on : scanned line ≡ scan (runWith run b) frame (seen .place + 1) (drop (seen .place + 1) line)
+      unfolding frameWith
+      stuffed-on = went right (stuff-bit run frame (seen .place) b begun bit due n) ∙ rw due refl
+
+      within-stuff : seen .place + 1 ≤ length line → Within line f (behindStuffBit line seen) (runWith run b) left frame
+      unfolding runWith
+      within-stuff reached =
+          record {
+            leads = rw (pending-none left frame (seen .place + 1) some) stuffed-on;
+            end-is = omega (arith, w .end-is);
+            stop-is = refl;
+            at-is = w .at-is;
+            from = w .from;
+            data-bits-is = w .data-bits-is;
+            registers = w .registers;
+            told = λ g. told-stuff (seen .raw) b run (omega arith) n (due-five due .1) (w .told g);
+            fresh = λ e. absurd (counted-some run b e);
+            reached = reached;
+            behind = omega (arith, w .behind);
+          }
+
+      none-due : stuffDue (runWith run b) frame ≡ false
+      unfolding stuffDue runWith
+      none-due = rw single refl
+
+    -- one place on
+    onto : seen .place + 1 ≤ length line
+    onto = omega (arith, inside)
+
+    before : seen .place + 1 < seen .end + 1
+    before = omega (arith, w .end-is)
+
+    along : seen .place ≤ seen .place + 1
+    along = omega arith
+
+    stuff-goes : stuffDue run frame ≡ true → Passes line f seen left frame (stuffBit line seen)
+    unfolding stuffBit b
+    stuff-goes due = byte (ltb 1 b) refl
+      where
+        last : run .bit ≡ seen .raw % 2
+        last = bit-told (seen .raw) run (w .told (due-five due .0)) (due-five due .1)
+
+        longer-line : b ≤ 1 → (b ≡ run .bit → ⊥) → (t : Bool) → leb (length line) (seen .place + 1) ≡ t
+            → Passes line f seen left frame (cond t (Refused (LineLength (seen .place + 1))) (Next (behindStuffBit line seen)))
+        longer-line bit n true d =
+            stuffed-on due bit n ∙ ap (scan (runWith run b) frame (seen .place + 1)) (drop-of-length-le line (leb-true _ _ d))
+            ∙ ends (runWith run b) (seen .place + 1)
+        longer-line bit n false d =
+            (runWith run b, within-stuff due bit n onto, none-due due bit n, least-over _ _ _ before (leb-false _ _ d), along)
+
+        sixth : b ≤ 1 → (t : Bool) → eqb b (seen .raw % 2) ≡ t
+            → Passes line f seen left frame
+            (cond t (Refused (StuffBit (seen .place)))
+            (cond (leb (length line) (seen .place + 1)) (Refused (LineLength (seen .place + 1))) (Next (behindStuffBit line seen))))
+        sixth bit true d = went _ (sixth-bit run frame (seen .place) b begun bit due (eqb-true _ _ d ∙ sym last))
+        sixth bit false d = longer-line bit (λ e. eqb-false _ _ d (e ∙ last)) (leb (length line) (seen .place + 1)) refl
+
+        byte : (t : Bool) → ltb 1 b ≡ t
+            → Passes line f seen left frame
+            (cond t (Refused (LineByte (seen .place)))
+            (cond (eqb b (seen .raw % 2)) (Refused (StuffBit (seen .place)))
+            (cond (leb (length line) (seen .place + 1)) (Refused (LineLength (seen .place + 1))) (Next (behindStuffBit line seen)))))
+        byte true d = went _ (byte-above-1 run frame (seen .place) b begun (ltb-true _ _ d))
+        byte false d = sixth (ltb-false _ _ d) (eqb b (seen .raw % 2)) refl
+
+    pass-goes : f ≤ 5 → Passes line f seen left frame (passed line seen)
+    unfolding passed
+    pass-goes g = go (dueIn (seen .raw)) refl
+      where
+        go : (t : Bool) → dueIn (seen .raw) ≡ t → Passes line f seen left frame (cond t (stuffBit line seen) (Next seen))
+        go true d = stuff-goes (due-told g ∙ d)
+        go false d =
+            (run, w, due-told g ∙ d, rw (w .stop-is) (least-over (seen .end) (length line) (seen .place) (omega (arith, w .end-is)) inside), omega arith)
+
+    -- ---- a bit of the frame
+
+    module _ (due : stuffDue run frame ≡ false) where
+      -- the bits with this one
+      more : List ℕ
+      more = frame ++ (b ∷ [])
+
+      module _ (bit : b ≤ 1) where
+        added : f ≤ 5 → Registers f (seen .header) (seen .field) (seen .number * 2 + b) more
+        unfolding more
+        added g = bit-added f (seen .header) (seen .field) (seen .number) frame b (omega arith) g (w .registers)
+
+        -- behind the CRC
+        added-late : 5 < f → Registers f (seen .header) (seen .field) (seen .number) more
+        unfolding more
+        added-late g = ending-added f (seen .header) (seen .field) (seen .number) frame b g (w .registers)
+
+        -- behind the row's last bit what the frame shows is left for later; before that it shows nothing
+        pending-is : (number : ℕ) → Registers f (seen .header) (seen .field) number more
+            → pending (left - 1) more (seen .place + 1) ≡ shown more (seen .place)
+        unfolding more
+        pending-is number registers = go (left - 1) refl
+          where
+            go : (k : ℕ) → left - 1 ≡ k → pending k more (seen .place + 1) ≡ shown more (seen .place)
+            go zero d = ap (shown more) (omega arith)
+            go (suc k) d =
+                sym (shown-inside f (bytes seen) more (seen .place) (omega (arith, w .from, longer frame b)) (omega (arith, w .at-is, longer frame b))
+                (dlc-known f (seen .header) (seen .field) number more registers))
+
+        told-on : (mustBe frame ≡ 1 - b → ⊥) → f ≤ 5 → Tells (seen .raw * 2 % 2 ^ 64 + b) (runWith run b)
+        told-on n g =
+            told-more (seen .raw) b run (omega arith)
+            (λ e. let zero-is = must-first frame (w .fresh e) in zero-bit zero-is)
+            (λ e. not-five e) (w .told g)
+          where
+            zero-bit : mustBe frame ≡ 0 → b ≡ 0
+            zero-bit e = go (eqb b 0) refl
+              where
+                go : (t : Bool) → eqb b 0 ≡ t → b ≡ 0
+                go true d = eqb-true b 0 d
+                go false d = let other = eqb-false b 0 d in absurd (n (e ∙ omega arith))
+
+            not-five : run .count ≡ 5 → ⊥
+            not-five =
+                eqb-false _ _ (rw (le-ltb 5 f g) at (sym (due-is f (bytes seen) frame known (w .from) to run) ∙ due))
+
+        -- whatever raw bits and number are kept of it
+        within-on : (raw number : ℕ) → (mustBe frame ≡ 1 - b → ⊥) → Registers f (seen .header) (seen .field) number more
+            → (f ≤ 5 → Tells raw (runWith run b)) → Within line f (oneOn raw number seen) (runWith run b) (left - 1) more
+        unfolding runWith frameWith more
+        within-on raw number n registers told =
+            record {
+              leads = rw (pending-is number registers) (went _ (frame-bit run frame (seen .place) b begun bit due n) ∙ rw due refl);
+              end-is = omega (arith, w .end-is);
+              stop-is = w .stop-is;
+              at-is = omega (arith, w .at-is, longer frame b);
+              from = omega (arith, w .from, longer frame b);
+              data-bits-is = w .data-bits-is;
+              registers = registers;
+              told = told;
+              fresh = λ e. absurd (counted-some run b e);
+              reached = omega (arith, inside);
+              behind = omega (arith, w .behind, longer frame b);
+            }
+
+      -- the bit that must stand, or the line is refused; what is kept of it tells the run and the frame's bits
+      judged-goes : (must raw number : ℕ) → mustBe frame ≡ must
+          → (b ≤ 1 → (mustBe frame ≡ 1 - b → ⊥) → Registers f (seen .header) (seen .field) number more × (f ≤ 5 → Tells raw (runWith run b)))
+          → Goes line f seen (judgedBit must line seen (oneOn raw number seen))
+      unfolding judgedBit b
+      judged-goes must raw number m kept = byte (ltb 1 b) refl
+        where
+          fixed-goes : b ≤ 1 → (t : Bool) → eqb must (1 - b) ≡ t
+              → Goes line f seen (cond t (Refused (FixedBit (seen .place))) (Next (oneOn raw number seen)))
+          fixed-goes bit true d = went _ (fixed-bit run frame (seen .place) b begun bit due (m ∙ eqb-true _ _ d))
+          fixed-goes bit false d =
+              let n : mustBe frame ≡ 1 - b → ⊥ = λ e. eqb-false _ _ d (sym m ∙ e) in
+              (runWith run b, left - 1, more, within-on bit raw number n (kept bit n .0) (kept bit n .1), inside, omega arith)
+
+          byte : (t : Bool) → ltb 1 b ≡ t
+              → Goes line f seen
+              (cond t (Refused (LineByte (seen .place))) (cond (eqb must (1 - b)) (Refused (FixedBit (seen .place))) (Next (oneOn raw number seen))))
+          byte true d = went _ (byte-above-1 run frame (seen .place) b begun (ltb-true _ _ d))
+          byte false d = fixed-goes (ltb-false _ _ d) (eqb must (1 - b)) refl
+
+      field-goes : (must : ℕ) → mustBe frame ≡ must → f ≤ 5 → Goes line f seen (fieldBit must line seen)
+      unfolding b
+      field-goes must m g = judged-goes must _ _ m (λ bit n. (added bit g, told-on bit n))
+
+    ending-goes : (must : ℕ) → mustBe frame ≡ must → 5 < f → Goes line f seen (endingBit must line seen)
+    ending-goes must m g = judged-goes (none-late g) must _ _ m (λ bit n. (added-late (none-late g) bit g, λ few. absurd (omega arith)))
+
+-- a bit of the line, where the row's bits must be this one
+pub bit-goes : (line : List ℕ) (f : ℕ) (seen : Seen) (run : Run) (left : ℕ) (frame : List ℕ) → f < 9 → Within line f seen run left frame
+    → seen .place < seen .stop → (must : ℕ) → mustBe frame ≡ must → Goes line f seen (lineBit f must line seen)
+unfolding lineBit
+bit-goes line f seen run left frame h w before must m = late (ltb 5 f) refl
+  where
+    both : (seen .place < seen .end) × (seen .place < length line)
+    both = least-both (seen .end) (length line) (seen .place) (rw (w .stop-is) at before)
+
+    some : 0 < left
+    some = omega (arith, w .end-is, both .0)
+
+    further : (next : Seen) (s : Step) → seen .place ≤ next .place → seen .place < length line → Goes line f next s → Goes line f seen s
+    further next (Next last) l i g = (g .0, g .1, g .2, g .3, i, omega (arith, g .5))
+    further next (Refused refusal) l i g = g
+
+    go : f ≤ 5 → (s : Step) → Passes line f seen left frame s → Goes line f seen (andThen s (fieldBit must line))
+    go few (Next next) (r, v, due, l, k) =
+        let inner = least-both (next .end) (length line) (next .place) (rw (v .stop-is) at l) in
+        further next (fieldBit must line next) k (both .1)
+        (field-goes line f next r left frame h v some (inner .1) due must m few)
+    go few (Refused refusal) e = e
+
+    late : (t : Bool) → ltb 5 f ≡ t → Goes line f seen (cond t (endingBit must line seen) (andThen (passed line seen) (fieldBit must line)))
+    late true e = ending-goes line f seen run left frame h w some (both .1) must m (ltb-true 5 f e)
+    late false e =
+        let few = ltb-false 5 f e in
+        go few (passed line seen) (pass-goes line f seen run left frame h w some (both .1) few)

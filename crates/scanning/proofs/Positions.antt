@@ -1,0 +1,244 @@
+-- Where the rows stand that the code reads a frame by. Assumes nothing.
+--     startOf, endOf    the positions of field f's first bit and of the one behind its last, where the frame has n data bytes
+--     next-start        a field starts where the one before it ends
+--     end-some, header-end, data-end, crc-end, end-within    how far fields reach
+--     first-start, data-start, data-from, ending-from, frame-end    and from where on
+--     Stage, stage      which part of the frame a field is in
+--     early-or-known    where the DLC is not known yet, nothing hangs on it
+--     must-is           the bit that must stand next is the field's
+--     dueAt, due-is     a stuff bit is due as the row says
+--     not-complete      in a field the frame is not complete
+use mathlib.Core.Path.{_≡_, refl, sym, ap, _∙_, subst}
+use mathlib.Core.Bool.{Bool, true, false, cond, _&&_, and-true, and-false}
+use mathlib.Core.List.{List, [], _∷_}
+use mathlib.Core.Logic.{_⊎_, inl, inr}
+use Prim.Native.Nat.{ℕ, zero, suc, _+_, _-_, _*_, _≤_, _<_}
+use native.Mathlib.Nat.{zero-add, suc-add}
+use native.Mathlib.Numerals.{add-one}
+use native.Mathlib.Omega.{arith}
+use lib.Dec.{eqb, leb, ltb}
+use lib.ListN.{length, getD, replicate, length-replicate, getD-replicate, List·getD-append}
+use lib.Seq.{getD-append-add}
+use borrow.Author.Tests.{le-leb, lt-leb, ne-eqb, ltb-true, ltb-false, eqb-true, eqb-false}
+use Rattle.bits.specs.declared.Run.{Run}
+use Rattle.frame.specs.Line.{stuffedCrcBits}
+use Rattle.scanning.specs.Fields.{fixed, either, fieldsOf, form}
+use Rattle.scanning.specs.Scan.{dlcIn, crcStart, complete, stuffDue, mustBe}
+use Rattle.scanning.specs.Steps.{rowsOf}
+use Rattle.scanning.specs.declared.fields.Field.{Field}
+use Rattle.scanning.proofs.Partial.{must-early}
+
+-- row f of a list of fields
+abbrev pub rowAt : ℕ → List Field → Field
+rowAt f l = getD l f (fixed 0 0)
+
+-- how many bits stand before the field at f
+abbrev before : ℕ → List Field → ℕ
+before zero l = 0
+before (suc f) [] = 0
+before (suc f) (x ∷ l) = x .bits + before f l
+
+before-suc : (f : ℕ) (l : List Field) → before (suc f) l ≡ before f l + rowAt f l .bits
+before-suc zero [] = refl
+before-suc zero (x ∷ l) = omega arith
+before-suc (suc f) [] = refl
+before-suc (suc f) (x ∷ l) = omega (arith, before-suc f l)
+
+before-more : (f k : ℕ) (l : List Field) → before f l ≤ before (f + k) l
+before-more zero k l = omega arith
+before-more (suc f) k [] = omega arith
+before-more (suc f) k (x ∷ l) = rw (suc-add f k) (omega (arith, before-more f k l))
+
+pub startOf : ℕ → ℕ → ℕ
+startOf f n = before f (rowsOf n)
+
+pub endOf : ℕ → ℕ → ℕ
+endOf f n = startOf (suc f) n
+
+pub end-is : (f n : ℕ) → endOf f n ≡ startOf f n + rowAt f (rowsOf n) .bits
+unfolding startOf endOf
+end-is f n = before-suc f (rowsOf n)
+
+pub next-start : (f n : ℕ) → endOf f n ≡ startOf (f + 1) n
+unfolding endOf
+next-start f n = ap (λ (k : ℕ). startOf k n) (sym (add-one f))
+
+later : (f g n : ℕ) → f ≤ g → startOf f n ≤ startOf g n
+unfolding startOf
+later f g n h =
+    let sum : f + (g - f) ≡ g = omega arith in
+    subst (λ (k : ℕ). before f (rowsOf n) ≤ before k (rowsOf n)) sum (before-more f (g - f) (rowsOf n))
+
+-- where the parts start
+pub first-start : (n : ℕ) → startOf 0 n ≡ 0
+unfolding startOf
+first-start n = refl
+
+identifier-start : (n : ℕ) → startOf 1 n ≡ 1
+unfolding startOf rowsOf
+identifier-start n = refl
+
+dlc-start : (n : ℕ) → startOf 3 n ≡ 15
+unfolding startOf rowsOf
+dlc-start n = refl
+
+pub data-start : (n : ℕ) → startOf 4 n ≡ 19
+unfolding startOf rowsOf
+data-start n = refl
+
+crc-start : (n : ℕ) → startOf 5 n ≡ 19 + 8 * n
+unfolding startOf rowsOf
+crc-start n = omega arith
+
+ending-start : (n : ℕ) → startOf 6 n ≡ 34 + 8 * n
+unfolding startOf rowsOf
+ending-start n = omega arith
+
+slot-start : (n : ℕ) → startOf 7 n ≡ 35 + 8 * n
+unfolding startOf rowsOf
+slot-start n = omega arith
+
+pub frame-end : (n : ℕ) → startOf 9 n ≡ 44 + 8 * n
+unfolding startOf rowsOf
+frame-end n = omega arith
+
+-- where fields start and end
+pub data-from : (f n : ℕ) → 3 < f → 19 ≤ startOf f n
+data-from f n h = omega (arith, later 4 f n h, data-start n)
+
+pub ending-from : (f n : ℕ) → 5 < f → 34 + 8 * n ≤ startOf f n
+ending-from f n h = omega (arith, later 6 f n h, ending-start n)
+
+pub end-some : (f n : ℕ) → 0 < endOf f n
+unfolding endOf
+end-some f n = omega (arith, later 1 (suc f) n (omega arith), identifier-start n)
+
+pub header-end : (f n : ℕ) → f ≤ 3 → endOf f n ≤ 19
+unfolding endOf
+header-end f n h = omega (arith, later (suc f) 4 n (omega arith), data-start n)
+
+pub data-end : (f n : ℕ) → f ≤ 4 → endOf f n ≤ 19 + 8 * n
+unfolding endOf
+data-end f n h = omega (arith, later (suc f) 5 n (omega arith), crc-start n)
+
+pub crc-end : (f n : ℕ) → f ≤ 5 → endOf f n ≤ 34 + 8 * n
+unfolding endOf
+crc-end f n h = omega (arith, later (suc f) 6 n (omega arith), ending-start n)
+
+pub end-within : (f n : ℕ) → f < 9 → endOf f n ≤ 44 + 8 * n
+unfolding endOf
+end-within f n h = omega (arith, later (suc f) 9 n h, frame-end n)
+
+-- header fields but the DLC, the DLC, data, CRC, and what is never stuffed
+pub data Stage (f n : ℕ) : Type 0 where
+  before-dlc : f < 3 → endOf f n ≤ 15 → Stage f n
+  dlc : f ≡ 3 → endOf f n ≡ 19 → Stage f n
+  data-bits : f ≡ 4 → startOf f n ≡ 19 → endOf f n ≡ 19 + 8 * n → Stage f n
+  crc-bits : f ≡ 5 → startOf f n ≡ 19 + 8 * n → endOf f n ≡ 34 + 8 * n → Stage f n
+  ending : 5 < f → 34 + 8 * n ≤ startOf f n → 34 + 8 * n < endOf f n → endOf f n ≤ 44 + 8 * n → Stage f n
+
+pub stage : (f n : ℕ) → f < 9 → Stage f n
+unfolding endOf
+stage f n h = first (ltb f 3) refl
+  where
+    starts : (k : ℕ) → f ≡ k → startOf f n ≡ startOf k n
+    starts k i = ap (λ (j : ℕ). startOf j n) i
+
+    ends : (k : ℕ) → f ≡ k → startOf (suc f) n ≡ startOf (suc k) n
+    ends k i = ap (λ (j : ℕ). startOf (suc j) n) i
+
+    fourth : (t : Bool) → eqb f 5 ≡ t → 5 ≤ f → Stage f n
+    fourth true e g = let i = eqb-true f 5 e in crc-bits i (starts 5 i ∙ crc-start n) (ends 5 i ∙ ending-start n)
+    fourth false e g =
+        let i = eqb-false f 5 e in
+        let over : 5 < f = omega arith in
+        ending over (ending-from f n over) (omega (arith, later 7 (suc f) n (omega arith), slot-start n)) (end-within f n h)
+
+    third : (t : Bool) → eqb f 4 ≡ t → 4 ≤ f → Stage f n
+    third true e g = let i = eqb-true f 4 e in data-bits i (starts 4 i ∙ data-start n) (ends 4 i ∙ crc-start n)
+    third false e g = let i = eqb-false f 4 e in fourth (eqb f 5) refl (omega arith)
+
+    second : (t : Bool) → eqb f 3 ≡ t → 3 ≤ f → Stage f n
+    second true e g = let i = eqb-true f 3 e in dlc i (ends 3 i ∙ data-start n)
+    second false e g = let i = eqb-false f 3 e in third (eqb f 4) refl (omega arith)
+
+    first : (t : Bool) → ltb f 3 ≡ t → Stage f n
+    first true e = let i = ltb-true f 3 e in before-dlc i (omega (arith, later (suc f) 3 n i, dlc-start n))
+    first false e = second (eqb f 3) refl (ltb-false f 3 e)
+
+-- the bit of a field stands at each of its positions
+form-at : (f : ℕ) (l : List Field) (i : ℕ) → i < rowAt f l .bits → getD (form l) (before f l + i) either ≡ rowAt f l .bit
+unfolding form
+form-at zero [] i h = absurd (omega arith)
+form-at zero (x ∷ l) i h =
+    let inside : i < length (replicate (x .bits) (x .bit)) = rw (length-replicate (x .bits) (x .bit)) h in
+    rw (zero-add, List·getD-append (replicate (x .bits) (x .bit)) (form l) either i inside)
+    (getD-replicate (x .bits) i (x .bit) either h)
+form-at (suc f) [] i h = absurd (omega arith)
+form-at (suc f) (x ∷ l) i h =
+    let at : x .bits + before f l + i ≡ length (replicate (x .bits) (x .bit)) + (before f l + i) =
+    rw (length-replicate (x .bits) (x .bit)) (omega arith) in
+    rw (at, getD-append-add (replicate (x .bits) (x .bit)) (form l) (before f l + i) either) (form-at f l i h)
+
+-- the rows stand for the fields
+rows-form : (n : ℕ) → form (rowsOf n) ≡ form (fieldsOf n)
+unfolding form rowsOf fieldsOf
+rows-form n = refl
+
+-- where a stuff bit is due, by the run
+abbrev pub dueAt : ℕ → Run → Bool
+dueAt f run = cond (ltb 5 f) false (eqb (run .count) 5)
+
+-- a frame that reaches into field f, or up to its end; the DLC is known behind the header
+module _ (f n : ℕ) (frame : List ℕ) (known : 3 < f → dlcIn frame ≡ n) where
+  pub early-or-known : length frame < endOf f n → (length frame < 19) ⊎ (dlcIn frame ≡ n)
+  early-or-known to = go (ltb 3 f) refl
+    where
+      go : (t : Bool) → ltb 3 f ≡ t → (length frame < 19) ⊎ (dlcIn frame ≡ n)
+      go true e = inr (known (ltb-true 3 f e))
+      go false e = inl (omega (arith, to, header-end f n (ltb-false 3 f e)))
+
+  module _ (from : startOf f n ≤ length frame) (to : length frame < endOf f n) where
+    pub must-is : mustBe frame ≡ rowAt f (rowsOf n) .bit
+    unfolding mustBe startOf
+    must-is = same (early-or-known to) ∙ ap (λ (l : List ℕ). getD l p either) (sym (rows-form n)) ∙ at
+      where
+        p : ℕ
+        p = length frame
+
+        same : (p < 19) ⊎ (dlcIn frame ≡ n) → getD (form (fieldsOf (dlcIn frame))) p either ≡ getD (form (fieldsOf n)) p either
+        same (inl e) = must-early (dlcIn frame) p e ∙ sym (must-early n p e)
+        same (inr e) = ap (λ (k : ℕ). getD (form (fieldsOf k)) p either) e
+
+        at : getD (form (rowsOf n)) p either ≡ rowAt f (rowsOf n) .bit
+        at =
+            let sum : startOf f n + (p - startOf f n) ≡ p = omega (arith, from) in
+            subst (λ (k : ℕ). getD (form (rowsOf n)) k either ≡ rowAt f (rowsOf n) .bit) sum
+            (form-at f (rowsOf n) (p - startOf f n) (omega (arith, from, to, end-is f n)))
+
+    pub due-is : (run : Run) → stuffDue run frame ≡ dueAt f run
+    unfolding stuffDue crcStart
+    due-is run = go (ltb 5 f) refl
+      where
+        last : ℕ
+        last = 19 + 8 * dlcIn frame + stuffedCrcBits
+
+        within : f ≤ 5 → (length frame < 19) ⊎ (dlcIn frame ≡ n) → length frame ≤ last
+        within g (inl e) = omega arith
+        within g (inr e) = omega (arith, to, crc-end f n g)
+
+        go : (t : Bool) → ltb 5 f ≡ t → (eqb (run .count) 5 && leb (length frame) last) ≡ cond t false (eqb (run .count) 5)
+        go true e =
+            let over = ltb-true 5 f e in
+            let past : last < length frame = omega (arith, from, ending-from f n over, known (omega arith)) in
+            rw (lt-leb (length frame) last past) (and-false (eqb (run .count) 5))
+        go false e =
+            rw (le-leb (length frame) last (within (ltb-false 5 f e) (early-or-known to))) (and-true (eqb (run .count) 5))
+
+    pub not-complete : f < 9 → complete frame ≡ false
+    unfolding complete crcStart
+    not-complete h = ne-eqb (length frame) (19 + 8 * dlcIn frame + 25) (λ e. go (early-or-known to) e)
+      where
+        go : (length frame < 19) ⊎ (dlcIn frame ≡ n) → length frame ≡ 19 + 8 * dlcIn frame + 25 → ⊥
+        go (inl d) e = omega arith
+        go (inr d) e = omega (arith, to, end-within f n h)

@@ -1,0 +1,91 @@
+-- What is wrong with a bit: each refusal of a line, and when it is given. Assumes nothing.
+--     bit-too-many     11 behind the last end bit, whatever the bit
+--     byte-above-1     9
+--     sixth-bit        10
+--     stuff-bit        a stuff bit is right where it is the other bit
+--     fixed-bit        13
+--     frame-bit        a bit that may stand there is judged by what the frame then shows
+--     dlc-taken, taken-dlc    a DLC is taken exactly when it is not 1 and at most 8
+--     length-refused   3, with the fourth DLC bit
+--     crc-refused      12, with the last CRC bit
+--     nothing-shown    every other bit is right, and so are these two where DLC and CRC are
+use mathlib.Core.Path.{_≡_, refl}
+use mathlib.Core.Bool.{Bool, true, false, cond, not, _&&_, _||_, true≢false}
+use mathlib.Core.List.{List, [], _∷_, _++_}
+use Prim.Native.Nat.{ℕ, _+_, _-_, _*_, _≤_, _<_}
+use native.Mathlib.Omega.{arith}
+use lib.Dec.{eqb, ltb}
+use lib.ListN.{length}
+use borrow.Author.Tests.{lt-ltb, le-ltb, eq-eqb, ne-eqb, ltb-false, eqb-true, eqb-false}
+use Rattle.bits.specs.declared.Run.{Run}
+use Rattle.refusals.specs.declared.Refusal.the-variants.{FieldLength, LineByte, StuffBit, LineLength, Crc, FixedBit}
+use Rattle.scanning.specs.Scan.{dlcIn, crcStart, complete, stuffDue, mustBe, dlcRefused, crcRight, right, wrong, shown, verdict}
+
+-- the bit b, in the place where the frame's bits so far and the run are these
+module _ (run : Run) (frame : List ℕ) (place b : ℕ) where
+  pub bit-too-many : complete frame ≡ true → verdict run frame place b ≡ wrong (LineLength place)
+  unfolding verdict
+  bit-too-many e = simp e
+
+  module _ (begun : complete frame ≡ false) where
+    pub byte-above-1 : 1 < b → verdict run frame place b ≡ wrong (LineByte place)
+    unfolding verdict
+    byte-above-1 h = simp (begun, lt-ltb 1 b h)
+
+    module _ (bit : b ≤ 1) where
+      pub sixth-bit : stuffDue run frame ≡ true → b ≡ run .bit → verdict run frame place b ≡ wrong (StuffBit place)
+      unfolding verdict
+      sixth-bit due e = simp (begun, le-ltb 1 b bit, due, eq-eqb b (run .bit) e)
+
+      pub stuff-bit : stuffDue run frame ≡ true → (b ≡ run .bit → ⊥) → verdict run frame place b ≡ right
+      unfolding verdict
+      stuff-bit due n = simp (begun, le-ltb 1 b bit, due, ne-eqb b (run .bit) n)
+
+      pub fixed-bit : stuffDue run frame ≡ false → mustBe frame ≡ 1 - b → verdict run frame place b ≡ wrong (FixedBit place)
+      unfolding verdict
+      fixed-bit due e = simp (begun, le-ltb 1 b bit, due, eq-eqb (mustBe frame) (1 - b) e)
+
+      pub frame-bit : stuffDue run frame ≡ false → (mustBe frame ≡ 1 - b → ⊥) → verdict run frame place b ≡ shown (frame ++ (b ∷ [])) place
+      unfolding verdict
+      frame-bit due n = simp (begun, le-ltb 1 b bit, due, ne-eqb (mustBe frame) (1 - b) n)
+
+-- what the test of the DLC says
+pub dlc-taken : (frame : List ℕ) → (dlcIn frame ≡ 1 → ⊥) → dlcIn frame ≤ 8 → dlcRefused frame ≡ false
+dlc-taken frame n h = simp (ne-eqb (dlcIn frame) 1 n, le-ltb 8 (dlcIn frame) h)
+
+pub taken-dlc : (frame : List ℕ) → dlcRefused frame ≡ false → (dlcIn frame ≡ 1 → ⊥) × (dlcIn frame ≤ 8)
+taken-dlc frame e =
+    let both = neither (eqb (dlcIn frame) 1) (ltb 8 (dlcIn frame)) e in
+    (eqb-false (dlcIn frame) 1 (both .0), ltb-false 8 (dlcIn frame) (both .1))
+  where
+    neither : (s t : Bool) → (s || t) ≡ false → (s ≡ false) × (t ≡ false)
+    neither true t d = absurd (true≢false d)
+    neither false t d = (refl, d)
+
+-- the frame's bits, the one at this place the last of them
+module _ (frame : List ℕ) (place : ℕ) where
+  pub length-refused : length frame ≡ 19 → dlcRefused frame ≡ true → shown frame place ≡ wrong (FieldLength place)
+  unfolding shown
+  length-refused e r = simp (eq-eqb (length frame) 19 e, r)
+
+  pub crc-refused : length frame ≡ crcStart frame + 15 → crcRight frame ≡ false → shown frame place ≡ wrong (Crc place)
+  unfolding shown crcStart
+  crc-refused e r =
+      let longer : length frame ≡ 19 → ⊥ = λ d. omega arith in
+      simp (ne-eqb (length frame) 19 longer, eq-eqb (length frame) (19 + 8 * dlcIn frame + 15) e, r)
+
+  pub nothing-shown : (length frame ≡ 19 → dlcRefused frame ≡ false) → (length frame ≡ crcStart frame + 15 → crcRight frame ≡ true)
+      → shown frame place ≡ right
+  unfolding shown
+  nothing-shown fine check = first (eqb (length frame) 19) refl
+    where
+      second : (t : Bool) → eqb (length frame) (crcStart frame + 15) ≡ t → cond (t && not (crcRight frame)) (wrong (Crc place)) right ≡ right
+      second true e = simp (check (eqb-true _ _ e))
+      second false e = refl
+
+      first : (t : Bool) → eqb (length frame) 19 ≡ t
+          → cond (t && dlcRefused frame) (wrong (FieldLength place))
+          (cond (eqb (length frame) (crcStart frame + 15) && not (crcRight frame)) (wrong (Crc place)) right)
+          ≡ right
+      first true e = simp (fine (eqb-true _ _ e)) (second (eqb (length frame) (crcStart frame + 15)) refl)
+      first false e = second (eqb (length frame) (crcStart frame + 15)) refl

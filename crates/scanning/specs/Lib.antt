@@ -1,0 +1,4 @@
+pub mod Fields
+pub mod Scan
+pub mod Held
+pub mod Steps

@@ -1,0 +1,98 @@
+-- Reading the bits of a line from the left: the first problem met is the answer. Two things are known at a place of the line: the
+-- run of equal bits that ends before it, stuff bits counted, and the frame's bits read so far, without stuff bits. Assumes nothing.
+use Prim.Native.Nat.{ℕ, _+_, _-_, _*_}
+use mathlib.Core.Bool.{Bool, cond, not, _&&_, _||_}
+use mathlib.Core.List.{List, [], _∷_, _++_}
+use lib.Dec.{eqb, leb, ltb}
+use lib.ListN.{length, getD, take, drop}
+use Rattle.bits.specs.declared.Run.{Run}
+use Rattle.bits.specs.Rows.{number}
+use Rattle.bits.specs.Stuffing.{nothingSent, counted}
+use Rattle.refusals.specs.declared.Refusal.{Refusal}
+use Rattle.refusals.specs.declared.Refusal.the-variants.{FieldLength, LineByte, StuffBit, LineLength, Crc, FixedBit}
+use Rattle.crc.specs.Crc.{crc}
+use Rattle.frame.specs.Line.{stuffedCrcBits}
+use Rattle.scanning.specs.Fields.{either, fieldsOf, form}
+
+-- the DLC among the frame's bits; before the fourth of its bits is read, the number of those there are, which decides nothing yet
+unfoldable pub dlcIn : List ℕ → ℕ
+dlcIn frame = number 0 (take 4 (drop 15 frame))
+
+-- the position of the first CRC bit: behind 19 header bits and the data bits
+unfoldable pub crcStart : List ℕ → ℕ
+crcStart frame = 19 + 8 * dlcIn frame
+
+-- the last end bit is read: 15 CRC bits and ten more
+unfoldable pub complete : List ℕ → Bool
+complete frame = eqb (length frame) (crcStart frame + 25)
+
+-- after five equal bits a stuff bit is due, up to the last CRC bit that one may follow
+unfoldable pub stuffDue : Run → List ℕ → Bool
+stuffDue run frame = eqb (run .count) 5 && leb (length frame) (crcStart frame + stuffedCrcBits)
+
+-- the bit that must stand next; 2 where either may
+unfoldable pub mustBe : List ℕ → ℕ
+mustBe frame = getD (form (fieldsOf (dlcIn frame))) (length frame) either
+
+pub data Verdict : Type 0 where
+  right : Verdict
+  wrong : Refusal → Verdict
+
+-- no field has that many bytes: the DLC is 1, or above 8
+abbrev pub dlcRefused : List ℕ → Bool
+dlcRefused frame = eqb (dlcIn frame) 1 || ltb 8 (dlcIn frame)
+
+-- the CRC that stands in the frame is that of the bits before it
+abbrev pub crcRight : List ℕ → Bool
+crcRight frame = eqb (number 0 (drop (crcStart frame) frame)) (crc (take (crcStart frame) frame))
+
+-- what the frame's bits show once the bit at this place is among them: 3 at the fourth DLC bit, 12 at the last CRC bit
+unfoldable pub shown : List ℕ → ℕ → Verdict
+shown frame place =
+    cond (eqb (length frame) 19 && dlcRefused frame) (wrong (FieldLength place))
+    (cond (eqb (length frame) (crcStart frame + 15) && not (crcRight frame)) (wrong (Crc place))
+    right)
+
+-- what is wrong with the bit at a place, in the order 11, 9, 10, 13, then 3 or 12; 13 where the other bit must stand
+unfoldable pub verdict : Run → List ℕ → ℕ → ℕ → Verdict
+verdict run frame place bit =
+    cond (complete frame) (wrong (LineLength place))
+    (cond (ltb 1 bit) (wrong (LineByte place))
+    (cond (stuffDue run frame) (cond (eqb bit (run .bit)) (wrong (StuffBit place)) right)
+    (cond (eqb (mustBe frame) (1 - bit)) (wrong (FixedBit place))
+    (shown (frame ++ (bit ∷ [])) place))))
+
+-- the run and the frame's bits behind a bit that is right; a stuff bit is none of the frame's
+unfoldable pub runWith : Run → ℕ → Run
+runWith run bit = record { bit = bit; count = counted run bit }
+
+unfoldable pub frameWith : Run → List ℕ → ℕ → List ℕ
+frameWith run frame bit = cond (stuffDue run frame) frame (frame ++ (bit ∷ []))
+
+-- the bits of a whole frame, or the first problem met
+pub data Scanned : Type 0 where
+  whole : List ℕ → Scanned
+  stopped : Refusal → Scanned
+
+abbrev pub onward : Verdict → Scanned → Scanned
+onward right next = next
+onward (wrong refusal) next = stopped refusal
+
+-- the bits of a line from a place on; 11 where they end before the frame does
+unfoldable pub scan : Run → List ℕ → ℕ → List ℕ → Scanned
+scan run frame place [] = cond (complete frame) (whole frame) (stopped (LineLength place))
+scan run frame place (bit ∷ line) =
+    onward (verdict run frame place bit) (scan (runWith run bit) (frameWith run frame bit) (place + 1) line)
+
+-- a line from its first bit on: no run reaches in from before it
+unfoldable pub scanned : List ℕ → Scanned
+scanned line = scan nothingSent [] 0 line
+
+-- what is known behind the first bits of a line: the run that ends them, and the frame's bits among them
+unfoldable pub runBehind : Run → List ℕ → Run
+runBehind run [] = run
+runBehind run (bit ∷ line) = runBehind (runWith run bit) line
+
+unfoldable pub frameBehind : Run → List ℕ → List ℕ → List ℕ
+frameBehind run frame [] = frame
+frameBehind run frame (bit ∷ line) = frameBehind (runWith run bit) (frameWith run frame bit) line

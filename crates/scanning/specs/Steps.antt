@@ -1,0 +1,172 @@
+-- Reading as the code does it, by registers and row by row; no public contract cites it. Assumes nothing.
+use Prim.Native.Nat.{ℕ, _+_, _-_, _*_, _/_, _%_, _^_}
+use mathlib.Core.Path.{_≡_}
+use mathlib.Core.Bool.{Bool, cond, _||_}
+use mathlib.Core.List.{List, [], _∷_, _++_}
+use lib.Dec.{eqb, leb, ltb}
+use lib.ListN.{length, getD}
+use Rattle.bits.specs.Rows.{bits}
+use Rattle.refusals.specs.declared.Refusal.the-variants.{FieldLength, LineByte, StuffBit, LineLength, Crc, FixedBit}
+use Rattle.crc.specs.Crc.{crc}
+use Rattle.crc.specs.Dlc.{dataBytes}
+use Rattle.scanning.specs.Fields.{fixed, free}
+use Rattle.scanning.specs.Scan.{dlcIn, Scanned, whole, stopped}
+use Rattle.scanning.specs.Held.{identifierIn, dataIn}
+use Rattle.scanning.specs.declared.fields.Field.{Field}
+use Rattle.scanning.specs.declared.seen.Seen.{Seen}
+use Rattle.scanning.specs.declared.seen.Step.{Step}
+use Rattle.scanning.specs.declared.seen.Step.the-variants.{Next, Refused}
+
+-- the rows that the code reads by: the fields of a frame with n data bytes, neighbours that must be the same bit in one row
+unfoldable pub rowsOf : ℕ → List Field
+rowsOf n =
+    fixed 1 0  -- start of frame
+    ∷ free 11  -- identifier
+    ∷ fixed 3 0  -- RTR, IDE, reserved bit
+    ∷ free 4  -- DLC
+    ∷ free (8 * n)  -- data
+    ∷ free 15  -- CRC
+    ∷ fixed 1 1  -- CRC delimiter
+    ∷ free 1  -- ACK slot
+    ∷ fixed 8 1  -- ACK delimiter, end bits
+    ∷ []
+
+-- the place that comes first
+unfoldable pub least : ℕ → ℕ → ℕ
+least a b = cond (ltb a b) a b
+
+-- the bit at the next place
+abbrev pub bitAt : List ℕ → Seen → ℕ
+bitAt line seen = getD line (seen .place) 0
+
+-- five equal bits end the raw bits: up to the CRC a stuff bit is due
+unfoldable pub dueIn : ℕ → Bool
+dueIn raw = ltb ((raw % 32 + 1) % 32) 2
+
+-- what is seen behind a stuff bit
+abbrev pub behindStuffBit : List ℕ → Seen → Seen
+behindStuffBit line seen =
+    record {
+      stop = least (seen .end + 1) (length line);
+      end = seen .end + 1;
+      place = seen .place + 1;
+      raw = 1 + seen .raw % 2;
+      number = seen .number;
+      header = seen .header;
+      field = seen .field;
+      «data_bits» = seen .«data_bits»;
+    }
+
+-- one place on, with these raw bits and this number
+abbrev pub oneOn : ℕ → ℕ → Seen → Seen
+oneOn raw number seen =
+    record {
+      stop = seen .stop;
+      end = seen .end;
+      place = seen .place + 1;
+      raw = raw;
+      number = number;
+      header = seen .header;
+      field = seen .field;
+      «data_bits» = seen .«data_bits»;
+    }
+
+-- what is seen behind a bit; it is kept up to the CRC
+abbrev pub behindBit : ℕ → Seen → Seen
+behindBit bit seen = oneOn (seen .raw * 2 % 2 ^ 64 + bit) (seen .number * 2 + bit) seen
+
+abbrev pub behindEnding : Seen → Seen
+behindEnding seen = oneOn (seen .raw) (seen .number) seen
+
+-- a bit where a stuff bit is due
+unfoldable pub stuffBit : List ℕ → Seen → Step
+stuffBit line seen =
+    cond (ltb 1 (bitAt line seen)) (Refused (LineByte (seen .place)))
+    (cond (eqb (bitAt line seen) (seen .raw % 2)) (Refused (StuffBit (seen .place)))
+    (cond (leb (length line) (seen .place + 1)) (Refused (LineLength (seen .place + 1)))
+    (Next (behindStuffBit line seen))))
+
+-- what is seen before the next bit: behind the stuff bit, where one is due
+unfoldable pub passed : List ℕ → Seen → Step
+passed line seen = cond (dueIn (seen .raw)) (stuffBit line seen) (Next seen)
+
+-- a bit that is refused: one where the other must stand, or a byte that is none
+unfoldable pub refusedBit : ℕ → ℕ → ℕ → Step
+refusedBit must bit place = cond (eqb (must + bit) 1) (Refused (FixedBit place)) (Refused (LineByte place))
+
+-- a bit where `must` must stand, and what is seen behind it if it is right
+unfoldable pub judgedBit : ℕ → List ℕ → Seen → Seen → Step
+judgedBit must line seen next =
+    cond (ltb 1 (bitAt line seen)) (Refused (LineByte (seen .place)))
+    (cond (eqb must (1 - bitAt line seen)) (Refused (FixedBit (seen .place)))
+    (Next next))
+
+-- a bit up to the CRC, and one behind it
+abbrev pub fieldBit : ℕ → List ℕ → Seen → Step
+fieldBit must line seen = judgedBit must line seen (behindBit (bitAt line seen) seen)
+
+abbrev pub endingBit : ℕ → List ℕ → Seen → Step
+endingBit must line seen = judgedBit must line seen (behindEnding seen)
+
+abbrev pub andThen : Step → (Seen → Step) → Step
+andThen (Next seen) next = next seen
+andThen (Refused refusal) next = Refused refusal
+
+-- the next bit of row f, and the stuff bit before it
+unfoldable pub lineBit : ℕ → ℕ → List ℕ → Seen → Step
+lineBit f must line seen = cond (ltb 5 f) (endingBit must line seen) (andThen (passed line seen) (fieldBit must line))
+
+-- behind the last bit of the DLC: 3, or the header is whole
+unfoldable pub headerRead : Seen → Step
+headerRead seen =
+    cond (eqb (seen .number % 16) 1 || ltb 8 (seen .number % 16)) (Refused (FieldLength (seen .place - 1)))
+    (Next (record {
+      stop = seen .stop;
+      end = seen .end;
+      place = seen .place;
+      raw = seen .raw;
+      number = 0;
+      header = seen .number;
+      field = seen .field;
+      «data_bits» = 8 * (seen .number % 16);
+    }))
+
+-- behind the last data bit the data field is whole
+unfoldable pub fieldRead : Seen → Step
+fieldRead seen =
+    Next (record {
+      stop = seen .stop;
+      end = seen .end;
+      place = seen .place;
+      raw = seen .raw;
+      number = 0;
+      header = seen .header;
+      field = seen .number;
+      «data_bits» = 0;
+    })
+
+-- behind the last bit of the CRC: 12, or it is right
+unfoldable pub crcRead : Seen → Step
+crcRead seen =
+    cond (eqb (seen .number) (crc (bits 19 (seen .header) ++ bits (8 * dataBytes (seen .header % 16)) (seen .field)))) (Next seen)
+    (Refused (Crc (seen .place - 1)))
+
+-- behind the last bit of row f
+unfoldable pub partEnd : ℕ → Seen → Step
+partEnd f seen =
+    cond (eqb f 3) (headerRead seen) (cond (eqb f 4) (fieldRead seen) (cond (eqb f 5) (crcRead seen) (Next seen)))
+
+-- where reading stops in row f: 11 where the line ends before the row
+unfoldable pub fieldEnd : ℕ → Seen → Step
+fieldEnd f seen = cond (ltb (seen .place) (seen .end)) (Refused (LineLength (seen .place))) (partEnd f seen)
+
+-- the registers hold identifier, DLC and data bits of the frame
+pub record Holds (seen : Seen) (frame : List ℕ) : Type 0 where
+  pub identifier-is : seen .header / 128 % 2048 ≡ identifierIn frame
+  pub dlc-is : seen .header % 16 ≡ dlcIn frame
+  pub data-is : seen .field ≡ dataIn frame
+
+-- what scanning a line answers
+abbrev pub Reads : Step → Scanned → Type 0
+Reads (Next seen) scan = (frame : List ℕ) × (scan ≡ whole frame) × Holds seen frame
+Reads (Refused refusal) scan = scan ≡ stopped refusal

@@ -1,0 +1,50 @@
+// Reading the bits of a line from the left: the first problem met is the answer.
+ghost use Prim.Native.Nat.{_<_};
+ghost use Rattle.scanning.specs.Scan.{scanned};
+ghost use Rattle.scanning.specs.Steps.{Reads};
+use crate::bit;
+use crate::field_end;
+use crate::fields;
+use crate::places;
+use crate::seen;
+use crate::seen::Step;
+use refusals::Refusal;
+
+// What is seen of the whole line, field by field and bit by bit.
+pub(crate) fn along(line: &[u8]) -> Step
+    ensures { λ r. ⌜ Reads r (scanned (now (line .entry))) ⌝ }
+{
+    let fields = fields::all();
+    let mut seen = seen::NOTHING;
+    let mut i = 0;
+    'line: loop {
+        if i == fields::COUNT {
+            if seen.place < line.len() {
+                break 'line Step::Refused(Refusal::LineLength(seen.place));
+            }
+            break 'line Step::Next(seen);
+        }
+        let field = fields[i];
+        seen.end = seen.place + field.bits as usize + seen.data_bits;
+        seen.stop = places::least(seen.end, line.len());
+        while seen.place < seen.stop {
+            match bit::next(line, i, field.bit, seen) {
+                Step::Next(next) => {
+                    seen = next;
+                }
+                Step::Refused(refusal) => {
+                    break 'line Step::Refused(refusal);
+                }
+            }
+        }
+        match field_end::judge(i, seen) {
+            Step::Next(next) => {
+                seen = next;
+            }
+            Step::Refused(refusal) => {
+                break 'line Step::Refused(refusal);
+            }
+        }
+        i += 1;
+    }
+}
