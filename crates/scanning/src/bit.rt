@@ -61,6 +61,7 @@ fn ending_bit(line: &[u8], must: u8, seen: Seen) -> Step
     if bit == 1 {
         return Step::Next(further(seen));
     }
+    // A 0 where either may stand.
     if must + bit == 2 {
         return Step::Next(further(seen));
     }
