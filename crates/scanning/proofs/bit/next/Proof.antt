@@ -1,5 +1,6 @@
 -- `scanning::bit::next` meets its contract: up to the CRC a stuff bit is passed, then the field's bit is read. Assumes nothing.
 use mathlib.Core.Path.{_∙_, sym}
+use Prim.Native.Nat.{_<_}
 use native.Mathlib.Omega.{arith}
 use borrow.Author.Needs.{needs}
 use Rattle.scanning.proofs.LineBit.{ending-next, passed-inside, passed-next, passed-refused}
@@ -9,10 +10,12 @@ use Rattle.scanning.proofs.bit.next.Tie as tie
 ending-bit-requires : tie.Need-ending-bit-requires
 ending-bit-requires c κs =
     let pre = c .before .before .pre in
-    (pre .0, pre .3, pre .5 (c .if1 .taken))
+    (pre .0, pre .3, pre .5 (omega (arith, c .if1 .taken)))
 
 returns : tie.Need-returns
-returns c = c .ending-bit .ensures ∙ ending-next _ _ _ _ (c .before .if1 .taken)
+returns c =
+    let late : 5 < c .before .before .before .args .field = omega (arith, c .before .if1 .taken) in
+    c .ending-bit .ensures ∙ ending-next _ _ _ _ late
 
 pass-requires : tie.Need-pass-requires
 pass-requires c κs = search needs
