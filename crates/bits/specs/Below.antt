@@ -1,4 +1,4 @@
--- Lists of numbers below a bound: bits are below 2, bytes below 256. Assumes nothing.
+-- Lists of numbers below a bound: bits are below 2, bytes below 256. Assumes nothing. [1.1]
 use Prim.Native.Nat.{ℕ, _<_}
 use mathlib.Core.List.{List, [], _∷_}
 

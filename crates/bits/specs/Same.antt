@@ -1,4 +1,4 @@
--- The test whether two lists of numbers are the same. Assumes nothing.
+-- The test whether two lists of numbers are the same. Assumes nothing. [10.7, 10.9]
 use mathlib.Core.Bool.{Bool, true, false, _&&_}
 use mathlib.Core.List.{List, [], _∷_}
 use Prim.Native.Nat.{ℕ}

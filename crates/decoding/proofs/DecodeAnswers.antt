@@ -8,14 +8,12 @@
 --     decode-no-word    6, the same of nine bits that are no word
 --     decode-padding    7, bytes, but behind them another padding
 --     decode-accepts    the payload's length, where all is right
---     decode-numbers    a field whose length is right has no other refusals than 2 and 4 to 7
 use mathlib.Core.Path.{_≡_, refl, sym, ap, _∙_}
-use mathlib.Core.Bool.{Bool, true, false, cond, not}
+use mathlib.Core.Bool.{Bool}
 use mathlib.Core.List.{List, [], _∷_, _++_, map, append-nil}
 use Prim.Native.Nat.{ℕ, _+_, _≤_, _<_}
 use native.Mathlib.Nat.{add-zero, zero-add}
 use native.Mathlib.Omega.{arith}
-use lib.Dec.{ltb}
 use lib.ListN.{length}
 use borrow.Author.Tests.{eq-eqb, ne-eqb, lt-ltb, le-ltb}
 use Rattle.bits.specs.Packing.{unpacked, packed}
@@ -24,7 +22,6 @@ use Rattle.bits.proofs.Same.{eq-same, ne-same}
 use Rattle.refusals.specs.declared.Answer.{Answer}
 use Rattle.refusals.specs.declared.Answer.the-variants.{Length, Refused}
 use Rattle.refusals.specs.declared.Refusal.the-variants as refusal
-use Rattle.refusals.specs.Table.{numberOf}
 use Rattle.words.specs.declared.Symbol.{Symbol}
 use Rattle.words.specs.declared.Symbol.the-variants.{Byte, Escape, Nothing}
 use Rattle.field.specs.Sizes.{breakBit, paddingBits}
@@ -111,39 +108,3 @@ decode-accepts field bytes room begun e p =
     let right = padding 0 (paddingBits (sizeOf field)) in
     stops field bytes [] room begun (e ∙ sym (append-nil (map Byte bytes)))
     ∙ ap (λ (t : Bool). paddingAnswer t (sizeOf field)) (ap (λ (l : List ℕ). same l right) p ∙ eq-same right)
-
--- 2, or 4 to 7, if a refusal
-abbrev pub OfField : Answer → Type 0
-OfField (Length n) = Unit {0}
-OfField (Refused r) = (numberOf r ≡ 3 → ⊥) × (numberOf r ≤ 7)
-
-words-numbers : (word : ℕ) (l : List Symbol) (next : Answer) → OfField next → OfField (wordsAnswer word l next)
-words-numbers word [] next h = h
-words-numbers word (Byte x ∷ l) next h = words-numbers (word + 1) l next h
-words-numbers word (Escape ∷ l) next h = (λ e. omega arith, omega arith)
-words-numbers word (Nothing ∷ l) next h = (λ e. omega arith, omega arith)
-
-padding-numbers : (right : Bool) (size : ℕ) → OfField (paddingAnswer right size)
-padding-numbers true size = tt
-padding-numbers false size = (λ e. omega arith, omega arith)
-
-pub decode-numbers : (field : List ℕ) (room : ℕ) → LengthAllowed field → OfField (decodeAnswer field room)
-unfolding decodeAnswer
-decode-numbers field room allowed = rw (ne-eqb _ _ (allowed .not-one), le-ltb _ _ (allowed .at-most)) (second (ltb room (sizeOf field)))
-  where
-    right : Bool
-    right = same (paddingPart field) (padding 0 (paddingBits (sizeOf field)))
-
-    broken : Bool
-    broken = not (same (breakPart field) (breakBit (length field)))
-
-    body : Answer
-    body = wordsAnswer 0 (symbolsOf field) (paddingAnswer right (sizeOf field))
-
-    third : (t : Bool) → OfField (cond t (Refused refusal.BreakBit) body)
-    third true = (λ e. omega arith, omega arith)
-    third false = words-numbers 0 (symbolsOf field) (paddingAnswer right (sizeOf field)) (padding-numbers right (sizeOf field))
-
-    second : (t : Bool) → OfField (cond t (Refused refusal.RoomShort) (cond broken (Refused refusal.BreakBit) body))
-    second true = (λ e. omega arith, omega arith)
-    second false = third broken

@@ -1,5 +1,7 @@
 pub mod FieldParts
 pub mod DecodeAnswers
+pub mod NumberAnswers
+pub mod DecodeGiven
 pub mod BodyRead
 pub mod Places
 pub mod Accepted

@@ -1,3 +1,4 @@
 pub mod Parts
 pub mod Decode
+pub mod Number
 pub mod Reading

@@ -11,7 +11,8 @@ use Rattle.refusals.specs.declared.Answer.{Answer}
 use Rattle.refusals.specs.declared.Answer.the-variants as answer
 use Rattle.refusals.specs.declared.Refusal.{Refusal}
 use Rattle.refusals.specs.declared.Refusal.the-variants as refusal
-use Rattle.words.specs.Symbols.{symbolOf, isEscape}
+use Rattle.words.specs.Symbols.{symbolOf}
+use Rattle.words.specs.Lists.{isEscape}
 use Rattle.words.specs.declared.Symbol.{Symbol}
 use Rattle.field.specs.Padding.{padding}
 use Rattle.decoding.specs.Decode.{byteOf, wordsAnswer, paddingAnswer}

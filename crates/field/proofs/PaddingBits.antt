@@ -15,7 +15,8 @@ use borrow.Author.Tests.{lt-ltb, le-ltb}
 use Rattle.bits.specs.Below.{Below}
 use Rattle.bits.specs.Rows.{number}
 use Rattle.bits.proofs.Everywhere.{everywhere, everywhere-at}
-use Rattle.field.specs.Padding.{padding, paddingNumber}
+use Rattle.field.specs.Padding.{padding}
+use Rattle.field.specs.Coded.{paddingNumber}
 
 pub padding-length : (first count : ℕ) → length (padding first count) ≡ count
 unfolding padding

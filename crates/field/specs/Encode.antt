@@ -9,7 +9,7 @@ use Rattle.refusals.specs.declared.Answer.the-variants.{Length, Refused}
 use Rattle.refusals.specs.declared.Refusal.the-variants.{PayloadTooLong, RoomShort}
 use Rattle.field.specs.Sizes.{fieldBytes}
 
--- 1, then 2
+-- 1, then 2 [9.1, 9.2, 9.3]
 unfoldable pub encodeAnswer : List ℕ → ℕ → Answer
 encodeAnswer payload room =
     let size = length payload in

@@ -13,7 +13,7 @@ use crate::table::Row;
 use refusals::Refusal;
 use words::word_list;
 
-// How many bytes a field has, and the number of its bits; or why there is none.
+// How many bytes a field has, and the number of its bits; or why there is none. [9.3]
 pub enum Coded {
     Field(usize, u64),
     Refused(Refusal),

@@ -1,6 +1,6 @@
 // Padding as a number.
 ghost use mathlib.Core.Path.{_≡_};
-ghost use Rattle.field.specs.Padding.{paddingNumber};
+ghost use Rattle.field.specs.Coded.{paddingNumber};
 
 // The number of `count` bits that alternate from the first: cut from 01010101, or from 10101010. Of more than eight bits, or from
 // what is no bit, it is 0.

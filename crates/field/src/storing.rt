@@ -2,6 +2,7 @@
 ghost use mathlib.Core.Path.{_≡_};
 ghost use Prim.Native.Nat.{_<_};
 ghost use lib.ListN.{length};
+ghost use Rattle.refusals.specs.Table.{answerNumbers};
 ghost use Rattle.refusals.specs.After.{after};
 ghost use Rattle.words.specs.Lists.{wordList};
 ghost use Rattle.field.specs.Field.{fieldOf};
@@ -16,7 +17,7 @@ use refusals::Refusal;
 pub(crate) fn by_size(list: &[u16; 256], payload: &[u8], field: &mut [u8]) -> Answer
     requires { ⌜ (now list ≡ wordList) × (0 < length (now payload)) × (length (now payload) < 8) ⌝ }
     ensures answer { λ r. ⌜ r ≡ encodeAnswer (now (payload .entry)) (length (now (field .entry))) ⌝ }
-    ensures memory { λ r. ⌜ now (field .exit) ≡ after r (fieldOf (now (payload .entry))) (now (field .entry)) ⌝ }
+    ensures memory { λ r. ⌜ now (field .exit) ≡ after (answerNumbers r) (fieldOf (now (payload .entry))) (now (field .entry)) ⌝ }
 {
     let size = payload.len();
     match size {
@@ -34,7 +35,7 @@ pub(crate) fn by_size(list: &[u16; 256], payload: &[u8], field: &mut [u8]) -> An
 fn sized(list: &[u16; 256], payload: &[u8], size: usize, field: &mut [u8]) -> Answer
     requires { ⌜ (now list ≡ wordList) × (length (now payload) ≡ size) × (size < 8) ⌝ }
     ensures answer { λ r. ⌜ r ≡ encodeAnswer (now (payload .entry)) (length (now (field .entry))) ⌝ }
-    ensures memory { λ r. ⌜ now (field .exit) ≡ after r (fieldOf (now (payload .entry))) (now (field .entry)) ⌝ }
+    ensures memory { λ r. ⌜ now (field .exit) ≡ after (answerNumbers r) (fieldOf (now (payload .entry))) (now (field .entry)) ⌝ }
 {
     let row = table::row_of(size);
     let n = row.bytes;

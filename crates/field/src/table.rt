@@ -3,7 +3,7 @@ ghost use mathlib.Core.Path.{_≡_};
 ghost use lib.ListN.{getD};
 ghost use Rattle.field.specs.Table.{rowOf, rows};
 
-// What the size of a payload decides of its field.
+// What the size of a payload decides of its field. [3.7]
 pub struct Row {
     // How many bytes the field has, which is the DLC.
     pub bytes: usize,
@@ -57,7 +57,7 @@ const ROWS: [Row; 8] = [
 ];
 
 // The rows of the sizes 0 to 7.
-pub fn rows() -> [Row; 8]
+fn rows() -> [Row; 8]
     ensures { λ r. ⌜ r ≡ rows ⌝ }
 {
     ROWS

@@ -1,18 +1,16 @@
--- How large the numbers of an answer are, of a frame: refusal's number, length, bounds and place, also where the payload were no
--- bytes. Assumes nothing.
+-- How large a length, a bound or a place a frame's calls answer, also where the payload were no bytes. Assumes nothing.
 --     length-small, make-small, bounds-small    for each call
 use mathlib.Core.Path.{_≡_, refl}
 use mathlib.Core.Bool.{Bool, true, false, cond}
 use mathlib.Core.List.{List}
-use Prim.Native.Nat.{ℕ, _+_, _*_, _≤_}
+use Prim.Native.Nat.{ℕ, _+_, _*_, _≤_, _<_}
 use native.Mathlib.Omega.{arith}
 use lib.Dec.{ltb, lit<}
 use lib.ListN.{length}
 use borrow.Author.Tests.{ltb-false}
-use Rattle.bits.specs.Below.{Below}
 use Rattle.bits.specs.Packing.{unpacked}
 use Rattle.bits.proofs.Packing.{unpacked-length}
-use Rattle.refusals.specs.Table.{answerNumbers}
+use Rattle.refusals.specs.Table.{Numbers, answerNumbers}
 use Rattle.refusals.specs.declared.Answer.{Answer}
 use Rattle.refusals.specs.declared.Answer.the-variants as answer
 use Rattle.refusals.specs.declared.Refusal.the-variants.{PayloadTooLong, RoomShort, Identifier}
@@ -33,7 +31,7 @@ module _ (identifier : ℕ) (payload : List ℕ) where
   line : Answer
   line = answer.Length (length (payloadLine identifier payload))
 
-  fits : length payload ≤ 7 → Below 133 (answerNumbers line)
+  fits : length payload ≤ 7 → answerNumbers line .low < 133
   unfolding line frameLine
   fits short =
       let field = fieldOf payload in
@@ -41,29 +39,33 @@ module _ (identifier : ℕ) (payload : List ℕ) where
       let few : length (unpacked 8 field) ≤ 64
       = omega (arith, unpacked-length 8 field, field-length payload, fieldBytes-few (length payload) short) in
       let most = line-few (header identifier (length field)) (unpacked 8 field) (omega (arith, head)) few in
-      (lit< tt, (omega (arith, most), tt))
+      omega (arith, most)
 
-  checked : (unknown long : Bool) → ltb 7 (length payload) ≡ long → (next : Answer) → (length payload ≤ 7 → Below 133 (answerNumbers next))
-      → Below 133 (answerNumbers (cond unknown (answer.Refused Identifier) (cond long (answer.Refused PayloadTooLong) next)))
-  checked true long e next small = (lit< tt, (lit< tt, tt))
-  checked false true e next small = (lit< tt, (lit< tt, tt))
+  checked : (unknown long : Bool) → ltb 7 (length payload) ≡ long → (next : Answer) → (length payload ≤ 7 → answerNumbers next .low < 133)
+      → answerNumbers (cond unknown (answer.Refused Identifier) (cond long (answer.Refused PayloadTooLong) next)) .low < 133
+  checked true long e next small = lit< tt
+  checked false true e next small = lit< tt
   checked false false e next small = small (ltb-false 7 (length payload) e)
 
-  pub length-small : Below 133 (answerNumbers (lengthAnswer identifier payload))
+  pub length-small : answerNumbers (lengthAnswer identifier payload) .low < 133
   unfolding lengthAnswer line
   length-small = checked (ltb 2047 identifier) (ltb 7 (length payload)) refl line fits
 
-  pub make-small : (room : ℕ) → Below 133 (answerNumbers (makeAnswer identifier payload room))
+  pub make-small : (room : ℕ) → answerNumbers (makeAnswer identifier payload room) .low < 133
   unfolding makeAnswer line
   make-small room =
       checked (ltb 2047 identifier) (ltb 7 (length payload)) refl (cond (ltb room 116) (answer.Refused RoomShort) line)
       (roomy (ltb room 116))
     where
-      roomy : (t : Bool) → length payload ≤ 7 → Below 133 (answerNumbers (cond t (answer.Refused RoomShort) line))
-      roomy true short = (lit< tt, (lit< tt, tt))
+      roomy : (t : Bool) → length payload ≤ 7 → answerNumbers (cond t (answer.Refused RoomShort) line) .low < 133
+      roomy true short = lit< tt
       roomy false short = fits short
 
-pub bounds-small : (identifier size : ℕ) → Below 117 (boundsNumbers (boundsAnswer identifier size))
+-- of two bounds
+abbrev pub Few : Numbers → Type 0
+Few x = (x .low < 117) × (x .high < 117)
+
+pub bounds-small : (identifier size : ℕ) → Few (boundsNumbers (boundsAnswer identifier size))
 unfolding boundsAnswer
 bounds-small identifier size = go (ltb 2047 identifier) (ltb 7 size) refl
   where
@@ -74,10 +76,10 @@ bounds-small identifier size = go (ltb 2047 identifier) (ltb 7 size) refl
     most = 48 + 8 * fieldBytes size + headerStuffBits identifier (fieldBytes size)
 
     go : (unknown long : Bool) → ltb 7 size ≡ long
-        → Below 117 (boundsNumbers (cond unknown (bounds.Refused Identifier) (cond long (bounds.Refused PayloadTooLong) (bounds.Between least most))))
-    go true long e = (lit< tt, (lit< tt, tt))
-    go false true e = (lit< tt, (lit< tt, tt))
+        → Few (boundsNumbers (cond unknown (bounds.Refused Identifier) (cond long (bounds.Refused PayloadTooLong) (bounds.Between least most))))
+    go true long e = (lit< tt, lit< tt)
+    go false true e = (lit< tt, lit< tt)
     go false false e =
         let few = fieldBytes-few size (ltb-false 7 size e) in
         let head = header-four identifier (fieldBytes size) in
-        (lit< tt, (omega (arith, few, head), (omega (arith, few, head), tt)))
+        (omega (arith, few, head), omega (arith, few, head))

@@ -8,27 +8,27 @@ use Rattle.bits.specs.Stuffing.{nothingSent, stuffed}
 use Rattle.crc.specs.Crc.{crc}
 use Rattle.frame.specs.Header.{header}
 
--- the CRC bits, of header and data bits
+-- the CRC bits, of header and data bits [4.3]
 unfoldable pub crcBits : List ℕ → List ℕ → List ℕ
 crcBits headerBits dataBits = bits 15 (crc (headerBits ++ dataBits))
 
--- how many of them a stuff bit may follow: nothing is inserted after the last
+-- how many of them a stuff bit may follow: nothing is inserted after the last [5.5]
 abbrev pub stuffedCrcBits : ℕ
 stuffedCrcBits = 14
 
--- the bits that a stuff bit may follow, from the start of frame on
+-- the bits that a stuff bit may follow, from the start of frame on [5.1]
 unfoldable pub stuffedRow : List ℕ → List ℕ → List ℕ
 stuffedRow headerBits dataBits = headerBits ++ (dataBits ++ take stuffedCrcBits (crcBits headerBits dataBits))
 
--- CRC delimiter 1, ACK slot, ACK delimiter 1, seven end bits 1
+-- CRC delimiter 1, ACK slot, ACK delimiter 1, seven end bits 1 [4.6]
 abbrev pub ending : ℕ → List ℕ
 ending ack = 1 ∷ ack ∷ 1 ∷ replicate 7 1
 
--- the stuffed bits, then those that are never stuffed; the maker writes 1 in the ACK slot
+-- the stuffed bits, then those that are never stuffed; the maker writes 1 in the ACK slot [4.7, 5.6, 6.1]
 unfoldable pub lineOf : List ℕ → List ℕ → List ℕ
 lineOf headerBits dataBits =
     stuffed nothingSent (stuffedRow headerBits dataBits) ++ (drop stuffedCrcBits (crcBits headerBits dataBits) ++ ending 1)
 
--- the line of the frame of an identifier and the bytes of a data field; the DLC is how many these are
+-- the line of the frame of an identifier and the bytes of a data field; the DLC is how many these are [4.2, 6.1]
 unfoldable pub frameLine : ℕ → List ℕ → List ℕ
 frameLine identifier field = lineOf (header identifier (length field)) (unpacked 8 field)

@@ -3,6 +3,7 @@
 // On success only the bytes of the result are written; after a refusal the lent buffer holds its old bytes.
 ghost use mathlib.Core.Path.{_≡_};
 ghost use lib.ListN.{length};
+ghost use Rattle.refusals.specs.Table.{answerNumbers};
 ghost use Rattle.refusals.specs.After.{after};
 ghost use Rattle.frame.specs.Answers.{payloadLine, makeAnswer, lengthAnswer, boundsAnswer};
 
@@ -21,7 +22,7 @@ use framing::Framed;
 use refusals::Answer;
 use refusals::Refusal;
 
-// The two bounds of a frame's length, the lower first, or a refusal.
+// The two bounds of a frame's length, the lower first, or a refusal. [7.4]
 pub enum Bounds {
     Between(usize, usize),
     Refused(Refusal),
@@ -31,7 +32,7 @@ pub enum Bounds {
 // bit. Refused with 8, 1 or 2; room for 116 bits is asked for whatever the frame.
 pub fn make_frame(identifier: u32, payload: &[u8], line: &mut [u8]) -> Answer
     ensures answer { λ r. ⌜ r ≡ makeAnswer identifier (now (payload .entry)) (length (now (line .entry))) ⌝ }
-    ensures memory { λ r. ⌜ now (line .exit) ≡ after r (payloadLine identifier (now (payload .entry))) (now (line .entry)) ⌝ }
+    ensures memory { λ r. ⌜ now (line .exit) ≡ after (answerNumbers r) (payloadLine identifier (now (payload .entry))) (now (line .entry)) ⌝ }
 {
     match framing::frame(identifier, payload) {
         Framed::Frame(parts) => {

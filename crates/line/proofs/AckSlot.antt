@@ -2,12 +2,15 @@
 --     line-ack    the line with a bit set there
 --     line-own    it has a 1 there of its own
 --     ack-again   and has it again, whatever bit was set there before
-use mathlib.Core.Path.{_≡_, sym, ap, _∙_}
+--     ack-found   a line of bits that is this one but for the ACK slot is this one with some bit set there
+use mathlib.Core.Path.{_≡_, sym, ap, ap₂, _∙_}
 use mathlib.Core.List.{List, [], _∷_, _++_, append-assoc}
-use Prim.Native.Nat.{ℕ, _-_}
+use Prim.Native.Nat.{ℕ, zero, suc, _-_, _<_}
 use native.Mathlib.Omega.{arith}
-use lib.ListN.{length, drop, set, replicate, length-append}
-use lib.Seq.{set-at}
+use lib.Dec.{lit<}
+use lib.ListN.{length, getD, drop, set, replicate, length-append, length-set}
+use lib.Seq.{set-at, set-getD, set-set}
+use Rattle.bits.specs.Below.{Below}
 use Rattle.bits.specs.Stuffing.{nothingSent, stuffed}
 use Rattle.frame.specs.Line.{crcBits, stuffedCrcBits, stuffedRow, ending, lineOf}
 use Rattle.line.specs.Ack.{withAck}
@@ -47,3 +50,16 @@ module _ (headerBits dataBits : List ℕ) where
 
   pub ack-again : (ack : ℕ) → withAck 1 (withAck ack (lineOf headerBits dataBits)) ≡ lineOf headerBits dataBits
   ack-again ack = ap (withAck 1) (front-ack ack) ∙ with-ack 1 ack front ∙ sym line-front
+
+bit-at : (l : List ℕ) (i : ℕ) → Below 2 l → getD l i 0 < 2
+bit-at [] i below = lit< tt
+bit-at (x ∷ l) zero below = below .0
+bit-at (x ∷ l) (suc i) below = bit-at l i (below .1)
+
+pub ack-found : (line made : List ℕ) → withAck 1 line ≡ made → Below 2 line → (ack : ℕ) × (ack < 2) × (line ≡ withAck ack made)
+unfolding withAck
+ack-found line made is below =
+    let i = length line - 9 in
+    let ack = getD line i 0 in
+    let size : length made - 9 ≡ i = ap (λ (l : List ℕ). length l - 9) (sym is) ∙ ap (λ (n : ℕ). n - 9) (length-set line i 1) in
+    (ack, bit-at line i below, sym (ap₂ (λ (l : List ℕ) (k : ℕ). set l k ack) (sym is) size ∙ set-set line i 1 ack ∙ set-getD line i 0))

@@ -7,15 +7,15 @@ use lib.ListN.{set, replicate}
 use Rattle.bits.specs.Rows.{bits, number}
 use Rattle.bits.specs.Packing.{unpacked, packed}
 use Rattle.bits.specs.Neighbours.{equalNeighbours}
+use Rattle.refusals.specs.Table.{Numbers, given, _at_}
 use Rattle.words.specs.Words.{words}
 use Rattle.words.specs.Symbols.{placeIn, symbolOf}
 use Rattle.field.specs.Padding.{padding}
 use Rattle.decoding.specs.Parts.{breakPart, wordsPart, paddingPart}
 use Rattle.decoding.specs.Decode.{decodeAnswer}
 use Rattle.crc.specs.Crc.{xor, divide, remainder, crc}
-use Rattle.scanning.specs.Fields.{fieldsOf, form}
-use Rattle.scanning.specs.Scan.{dlcIn, crcStart, complete, stuffDue, mustBe, shown, verdict, runWith, frameWith, scan, scanned}
-use Rattle.scanning.specs.Held.{identifierIn}
+use Rattle.scanning.specs.Form.{form}
+use Rattle.scanning.specs.Scan.{identifierIn, dlcIn, crcStart, complete, stuffDue, mustBe, shown, verdict, runWith, frameWith, scan, scanned}
 use Rattle.line.specs.Read.{fieldIn, readAnswer, lineNumbers}
 
 -- the frame of identifier 0 and the empty payload: 19 + 15 bits 0, six times five of them with a stuff bit; the last is at place 39
@@ -30,42 +30,42 @@ begins identifier = 0 ∷ bits 11 identifier
 abbrev pub header555 : ℕ → List ℕ
 header555 dlc = begins 0x555 ++ (bits 6 1 ++ bits 2 dlc)
 
--- a line, and its answer where there is room for seven bytes: 0, identifier and length; or a refusal's number and its place
-abbrev pub cases : List (List ℕ × List ℕ)
+-- a line, and its answer where there is room for seven bytes: length and identifier, or a refusal's number at its place
+abbrev pub cases : List (List ℕ × Numbers)
 cases =
-    (empty, 0 ∷ 0 ∷ 0 ∷ [])
-    ∷ (set empty 41 0, 0 ∷ 0 ∷ 0 ∷ [])  -- the ACK slot
+    (empty, given 0 0)
+    ∷ (set empty 41 0, given 0 0)  -- the ACK slot
     -- F0; a data field of bits 0 only, with three stuff bits, whose break bit is wrong; an escape in the place of the second word
-    ∷ (header555 2 ++ (bits 16 0xEA55 ++ (bits 16 0b0101111101001011 ++ replicate 10 1)), 0 ∷ 0x555 ∷ 1 ∷ [])
-    ∷ (header555 2 ++ (bits 19 0b0000100000100000100 ++ (bits 16 0b0010000010100100 ++ replicate 10 1)), 4 ∷ 0 ∷ [])
-    ∷ (header555 3 ++ (bits 24 0x6A484A ++ (bits 16 0b0111110111001000 ++ replicate 10 1)), 5 ∷ 1 ∷ [])
+    ∷ (header555 2 ++ (bits 16 0xEA55 ++ (bits 16 0b0101111101001011 ++ replicate 10 1)), given 1 0x555)
+    ∷ (header555 2 ++ (bits 19 0b0000100000100000100 ++ (bits 16 0b0010000010100100 ++ replicate 10 1)), 4 at 0)
+    ∷ (header555 3 ++ (bits 24 0x6A484A ++ (bits 16 0b0111110111001000 ++ replicate 10 1)), 5 at 1)
     -- the line ends before a bit, and before a stuff bit; it goes on
-    ∷ ([], 11 ∷ 0 ∷ [])
-    ∷ (replicate 5 0, 11 ∷ 5 ∷ [])
-    ∷ (empty ++ (7 ∷ []), 11 ∷ 50 ∷ [])
+    ∷ ([], 11 at 0)
+    ∷ (replicate 5 0, 11 at 5)
+    ∷ (empty ++ (7 ∷ []), 11 at 50)
     -- 9 comes before 13, and before 10
-    ∷ (2 ∷ [], 9 ∷ 0 ∷ [])
-    ∷ (set empty 5 2, 9 ∷ 5 ∷ [])
+    ∷ (2 ∷ [], 9 at 0)
+    ∷ (set empty 5 2, 9 at 5)
     -- a sixth equal bit; one behind IDE; one that RTR may not be either: 10 comes before 13
-    ∷ (set empty 5 0, 10 ∷ 5 ∷ [])
-    ∷ (begins 0b10101011000 ++ (0 ∷ 0 ∷ 0 ∷ []), 10 ∷ 14 ∷ [])
-    ∷ (begins 0b10101011111 ++ (1 ∷ []), 10 ∷ 12 ∷ [])
+    ∷ (set empty 5 0, 10 at 5)
+    ∷ (begins 0b10101011000 ++ (0 ∷ 0 ∷ 0 ∷ []), 10 at 14)
+    ∷ (begins 0b10101011111 ++ (1 ∷ []), 10 at 12)
     -- start of frame, RTR, IDE, the reserved bit, CRC delimiter, ACK delimiter, the last end bit
-    ∷ (1 ∷ [], 13 ∷ 0 ∷ [])
-    ∷ (begins 0x555 ++ (1 ∷ []), 13 ∷ 12 ∷ [])
-    ∷ (begins 0x555 ++ (0 ∷ 1 ∷ []), 13 ∷ 13 ∷ [])
-    ∷ (begins 0x555 ++ (0 ∷ 0 ∷ 1 ∷ []), 13 ∷ 14 ∷ [])
-    ∷ (set empty 40 0, 13 ∷ 40 ∷ [])
-    ∷ (set empty 42 0, 13 ∷ 42 ∷ [])
-    ∷ (set empty 49 0, 13 ∷ 49 ∷ [])
+    ∷ (1 ∷ [], 13 at 0)
+    ∷ (begins 0x555 ++ (1 ∷ []), 13 at 12)
+    ∷ (begins 0x555 ++ (0 ∷ 1 ∷ []), 13 at 13)
+    ∷ (begins 0x555 ++ (0 ∷ 0 ∷ 1 ∷ []), 13 at 14)
+    ∷ (set empty 40 0, 13 at 40)
+    ∷ (set empty 42 0, 13 at 42)
+    ∷ (set empty 49 0, 13 at 49)
     -- a CRC bit, and the last one
-    ∷ (set empty 36 1, 12 ∷ 39 ∷ [])
-    ∷ (set empty 39 1, 12 ∷ 39 ∷ [])
+    ∷ (set empty 36 1, 12 at 39)
+    ∷ (set empty 39 1, 12 at 39)
     -- DLC 1; DLC 15 and a sixth 1 behind it
-    ∷ (unpacked 6 (replicate 3 1) ++ bits 4 1, 3 ∷ 21 ∷ [])
-    ∷ (begins 0b10101010100 ++ (0 ∷ 0 ∷ 0 ∷ 1 ∷ bits 5 31), 3 ∷ 19 ∷ [])
+    ∷ (unpacked 6 (replicate 3 1) ++ bits 4 1, 3 at 21)
+    ∷ (begins 0b10101010100 ++ (0 ∷ 0 ∷ 0 ∷ 1 ∷ bits 5 31), 3 at 19)
     ∷ []
 
-pub lines-right : map (λ (c : List ℕ × List ℕ). lineNumbers (readAnswer (c .0) 7)) cases ≡ map (λ (c : List ℕ × List ℕ). c .1) cases
-unfolding bits number unpacked packed equalNeighbours words placeIn symbolOf padding breakPart wordsPart paddingPart decodeAnswer xor divide remainder crc form fieldsOf dlcIn crcStart complete stuffDue mustBe shown verdict runWith frameWith scan scanned identifierIn fieldIn readAnswer
+pub lines-right : map (λ (c : List ℕ × Numbers). lineNumbers (readAnswer (c .0) 7)) cases ≡ map (λ (c : List ℕ × Numbers). c .1) cases
+unfolding bits number unpacked packed equalNeighbours words placeIn symbolOf padding breakPart wordsPart paddingPart decodeAnswer xor divide remainder crc form dlcIn crcStart complete stuffDue mustBe shown verdict runWith frameWith scan scanned identifierIn fieldIn readAnswer
 lines-right = refl

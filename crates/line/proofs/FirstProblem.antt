@@ -18,6 +18,7 @@ use Rattle.bits.specs.Stuffing.{nothingSent}
 use Rattle.refusals.specs.declared.Refusal.{Refusal}
 use Rattle.refusals.specs.declared.Refusal.the-variants.{FieldLength, LineByte, StuffBit, LineLength, Crc, FixedBit}
 use Rattle.refusals.specs.Table.{numberOf, placeOf}
+use Rattle.scanning.specs.Form.{fits}
 use Rattle.scanning.specs.Scan.{crcStart, complete, stuffDue, mustBe, dlcRefused, crcRight, Verdict, right, wrong, shown, verdict, runWith, frameWith, Scanned, whole, stopped, onward, scan, scanned}
 use Rattle.scanning.proofs.Verdicts.{bit-too-many}
 
@@ -47,7 +48,7 @@ pub verdict-at : (run : Run) (frame : List ℕ) (place bit : ℕ) → At place (
 unfolding verdict shown
 verdict-at run frame place bit =
     let with = frame ++ (bit ∷ []) in
-    tests-at place (complete frame) (ltb 1 bit) (stuffDue run frame) (eqb bit (run .bit)) (eqb (mustBe frame) (1 - bit))
+    tests-at place (complete frame) (ltb 1 bit) (stuffDue run frame) (eqb bit (run .bit)) (not (fits (mustBe frame) bit))
     (eqb (length with) 19 && dlcRefused with) (eqb (length with) (crcStart with + 15) && not (crcRight with))
 
 -- a scan that stopped is not one that came to the end

@@ -6,33 +6,30 @@
 --     fits-free      where either may stand, any bit fits
 --     fits-same      a row fits itself
 --     fits-fixed     where one must stand, it stands
-use mathlib.Core.Path.{_≡_, refl, ap, ap₂}
-use mathlib.Core.Bool.{false}
+use mathlib.Core.Path.{_≡_, refl, sym, ap, ap₂}
+use mathlib.Core.Bool.{true, or-true}
 use mathlib.Core.List.{List, [], _∷_, _++_}
-use Prim.Native.Nat.{ℕ, zero, suc, _-_, _≤_, _<_}
+use Prim.Native.Nat.{ℕ, zero, suc, _≤_, _<_}
 use native.Mathlib.Nat.{not-suc-le-zero, le-of-suc-le-suc}
 use native.Mathlib.Omega.{arith}
 use lib.Dec.{eqb}
 use lib.ListN.{length, getD, take, drop, replicate}
-use borrow.Author.Tests.{eqb-false, ne-eqb}
+use borrow.Author.Tests.{eqb-true, eq-eqb, ne-eqb}
 use Rattle.bits.specs.Below.{Below}
-use Rattle.scanning.specs.Fields.{either}
+use Rattle.scanning.specs.Form.{either, fits}
 
 abbrev pub Fits : List ℕ → List ℕ → Type 0
 Fits [] l = Unit {0}
 Fits (m ∷ f) [] = Unit {0}
-Fits (m ∷ f) (b ∷ l) = (eqb m (1 - b) ≡ false) × Fits f l
+Fits (m ∷ f) (b ∷ l) = (fits m b ≡ true) × Fits f l
 
-free : (b : ℕ) → eqb either (1 - b) ≡ false
-free b = ne-eqb either (1 - b) (λ e. omega arith)
-
-pub fits-at : (f l m : List ℕ) (b : ℕ) → Fits f (l ++ (b ∷ m)) → eqb (getD f (length l) either) (1 - b) ≡ false
-fits-at [] l m b h = free b
+pub fits-at : (f l m : List ℕ) (b : ℕ) → Fits f (l ++ (b ∷ m)) → fits (getD f (length l) either) b ≡ true
+fits-at [] l m b h = refl
 fits-at (x ∷ f) [] m b h = h .0
 fits-at (x ∷ f) (y ∷ l) m b h = fits-at f l m b (h .1)
 
 pub at-fits : (f l : List ℕ)
-    → ((g m : List ℕ) (b : ℕ) → g ++ (b ∷ m) ≡ l → eqb (getD f (length g) either) (1 - b) ≡ false) → Fits f l
+    → ((g m : List ℕ) (b : ℕ) → g ++ (b ∷ m) ≡ l → fits (getD f (length g) either) b ≡ true) → Fits f l
 at-fits [] l h = tt
 at-fits (x ∷ f) [] h = tt
 at-fits (x ∷ f) (b ∷ l) h = (h [] l b refl, at-fits f l (λ g m c e. h (b ∷ g) m c (ap (b ∷_) e)))
@@ -56,16 +53,16 @@ fits-drop (suc n) (x ∷ f) (b ∷ l) h = fits-drop n f l (h .1)
 pub fits-free : (n : ℕ) (l : List ℕ) → Fits (replicate n either) l
 fits-free zero l = tt
 fits-free (suc n) [] = tt
-fits-free (suc n) (b ∷ l) = (free b, fits-free n l)
+fits-free (suc n) (b ∷ l) = (refl, fits-free n l)
 
 pub fits-same : (l : List ℕ) → Fits l l
 fits-same [] = tt
-fits-same (b ∷ l) = (ne-eqb b (1 - b) (λ e. omega arith), fits-same l)
+fits-same (b ∷ l) = (rw (eq-eqb b b refl) (or-true (eqb b either)), fits-same l)
 
 pub fits-fixed : (n v : ℕ) (f l : List ℕ) → v < 2 → Below 2 l → n ≤ length l
     → Fits (replicate n v ++ f) l → take n l ≡ replicate n v
-fits-fixed zero v f l h below long fits = refl
-fits-fixed (suc n) v f [] h below long fits = absurd (not-suc-le-zero long)
-fits-fixed (suc n) v f (b ∷ l) h below long fits =
-    let is : b ≡ v = omega (arith, below .0, eqb-false v (1 - b) (fits .0)) in
-    ap₂ _∷_ is (fits-fixed n v f l h (below .1) (le-of-suc-le-suc long) (fits .1))
+fits-fixed zero v f l h below long fitting = refl
+fits-fixed (suc n) v f [] h below long fitting = absurd (not-suc-le-zero long)
+fits-fixed (suc n) v f (b ∷ l) h below long fitting =
+    let is : b ≡ v = sym (eqb-true v b (rw (ne-eqb v either (λ e. omega arith)) at (fitting .0))) in
+    ap₂ _∷_ is (fits-fixed n v f l h (below .1) (le-of-suc-le-suc long) (fitting .1))

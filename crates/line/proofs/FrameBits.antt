@@ -23,10 +23,9 @@ use Rattle.frame.specs.Header.{header}
 use Rattle.frame.specs.Line.{crcBits, ending}
 use Rattle.frame.proofs.HeaderBits.{header-length, header-below, dlc-in-place}
 use Rattle.frame.proofs.LineParts.{crc-length}
-use Rattle.scanning.specs.Fields.{either, fieldsOf, form}
-use Rattle.scanning.specs.Scan.{dlcIn, crcStart}
-use Rattle.scanning.specs.Held.{identifierIn}
-use Rattle.scanning.proofs.Partial.{headerForm, dataForm, crcForm, form-is, dlc-stays}
+use Rattle.scanning.specs.Form.{either, free, form}
+use Rattle.scanning.specs.Scan.{identifierIn, dlcIn, crcStart}
+use Rattle.scanning.proofs.Partial.{headerForm, dataForm, crcForm, form-is, dlc-there, dlc-stays}
 use Rattle.line.specs.Read.{fieldIn}
 use Rattle.line.proofs.Fits.{Fits, fits-append, fits-free, fits-same}
 use Rattle.line.proofs.Right.{Right}
@@ -49,9 +48,10 @@ module _ (identifier : ℕ) (field : List ℕ) where
   parts ack = sym (append-assoc headerBits dataBits (checkBits ++ ending ack))
 
   frame-dlc : (ack : ℕ) → length field ≤ 8 → dlcIn (frameBits ack) ≡ length field
-  unfolding frameBits dlcIn bits
+  unfolding frameBits bits
   frame-dlc ack few =
       dlc-stays headerBits (dataBits ++ (checkBits ++ ending ack)) (omega (arith, header-length identifier (length field)))
+      ∙ dlc-there headerBits (omega (arith, header-length identifier (length field)))
       ∙ ap (λ (l : List ℕ). number 0 (take 4 l)) (dlc-in-place identifier (length field))
       ∙ number-low 4 (length field) ∙ mod-eq-of-lt (omega arith)
 
@@ -80,14 +80,14 @@ module _ (identifier : ℕ) (field : List ℕ) where
   header-fits : Fits headerForm headerBits
   unfolding header
   header-fits =
-      let must : List ℕ = 0 ∷ 0 ∷ 0 ∷ replicate 4 either in
+      let must : List ℕ = 0 ∷ 0 ∷ 0 ∷ free 4 in
       let last : List ℕ = 0 ∷ 0 ∷ 0 ∷ bits 4 (length field) in
       let fits : Fits must last = (refl, (refl, (refl, fits-free 4 (bits 4 (length field))))) in
       let identifierBits = bits 11 identifier in
       let size = sym (bits-length 11 identifier) in
-      (refl, fits-append (replicate 11 either) must identifierBits last size (fits-free 11 identifierBits) fits)
+      (refl, fits-append (free 11) must identifierBits last size (fits-free 11 identifierBits) fits)
 
-  frame-fits : (ack : ℕ) → Fits (form (fieldsOf (length field))) (frameBits ack)
+  frame-fits : (ack : ℕ) → Fits (form (length field)) (frameBits ack)
   unfolding frameBits
   frame-fits ack =
       let n = length field in

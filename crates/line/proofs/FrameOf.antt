@@ -1,7 +1,7 @@
 -- Bits that are right are those of a frame. Assumes nothing.
 --     right-frame     of the identifier and the data field that are found in them, and of some bit in the ACK slot
 --     identifier-few, field-bytes, bytes-below    which are an identifier, and as many bytes as the DLC says
---     field-there     the bytes whose bits, as one number, are the data bits
+--     field-there, data-fits    the bytes whose bits, as one number, are the data bits; it has no bits more
 use mathlib.Core.Path.{_≡_, sym, ap, ap₂, _∙_}
 use mathlib.Core.List.{List, [], _∷_, _++_, append-assoc}
 use Prim.Native.Nat.{ℕ, _+_, _-_, _*_, _%_, _^_, _≤_, _<_}
@@ -9,22 +9,22 @@ use native.Mathlib.Omega.{arith}
 use lib.Dec.{lit<}
 use lib.ListN.{length, take, drop, replicate, length-append, length-drop, length-replicate, take-append-drop}
 use lib.Seq.{take-all, take-at, drop-at, drop-drop, length-take-le}
-use borrow.Author.Tests.{eqb-false}
+use borrow.Author.Tests.{eqb-true}
 use Rattle.bits.specs.Below.{Below}
 use Rattle.bits.specs.Rows.{bits, number}
 use Rattle.bits.specs.Packing.{unpacked}
 use Rattle.bits.proofs.Below.{below-take, below-drop}
-use Rattle.bits.proofs.Rows.{number-low, bits-number}
+use Rattle.bits.proofs.Rows.{number-low, bits-number, number-below}
 use Rattle.bits.proofs.Packing.{packed-length, packed-below, unpacked-packed}
 use Rattle.field.specs.Coded.{fieldFrom}
 use Rattle.field.proofs.Coded.{from-number}
 use Rattle.crc.specs.Crc.{crc}
 use Rattle.frame.specs.Header.{header}
 use Rattle.frame.specs.Line.{crcBits, ending}
-use Rattle.scanning.specs.Fields.{either, fieldsOf, form}
-use Rattle.scanning.specs.Scan.{dlcIn, crcStart}
-use Rattle.scanning.specs.Held.{identifierIn, dataIn}
-use Rattle.scanning.proofs.Partial.{headerForm, dataForm, crcForm, form-is}
+use Rattle.scanning.specs.Form.{either, form}
+use Rattle.scanning.specs.Scan.{identifierIn, dlcIn, crcStart}
+use Rattle.scanning.specs.Held.{dataIn}
+use Rattle.scanning.proofs.Partial.{headerForm, dataForm, crcForm, form-is, dlc-there}
 use Rattle.line.specs.Read.{fieldIn}
 use Rattle.line.proofs.Fits.{Fits, fits-drop, fits-fixed}
 use Rattle.line.proofs.Right.{Right}
@@ -34,7 +34,7 @@ ending-only : (l : List ℕ) → length l ≡ 10 → Below 2 l → Fits (ending 
 ending-only [] e below fits = absurd (omega arith)
 ending-only (a ∷ []) e below fits = absurd (omega arith)
 ending-only (a ∷ b ∷ l) e below fits =
-    let one : a ≡ 1 = omega (arith, below .0, eqb-false 1 (1 - a) (fits .0)) in
+    let one : a ≡ 1 = sym (eqb-true 1 a (fits .0)) in
     let ones = fits-fixed 8 1 [] l (lit< tt) (below .1 .1) (omega arith) (fits .1 .1) in
     (b, below .1 .0, ap₂ (λ (x : ℕ) (m : List ℕ). x ∷ b ∷ m) one (sym (take-all 8 l (omega arith)) ∙ ones))
 
@@ -51,12 +51,12 @@ module _ (frame : List ℕ) (right : Right frame) where
   below-from : (i : ℕ) → Below 2 (drop i frame)
   below-from i = below-drop 2 i frame (right .below)
 
-  fits-from : (i : ℕ) (f : List ℕ) → drop i (form (fieldsOf (dlcIn frame))) ≡ f → Fits f (drop i frame)
-  fits-from i f e = rw e at (fits-drop i (form (fieldsOf (dlcIn frame))) frame (right .fits))
+  fits-from : (i : ℕ) (f : List ℕ) → drop i (form (dlcIn frame)) ≡ f → Fits f (drop i frame)
+  fits-from i f e = rw e at (fits-drop i (form (dlcIn frame)) frame (right .fits))
 
   -- bits that are the same in all frames, and bits of a number
   fixed-part : (i n v : ℕ) (f : List ℕ) → v < 2 → i + n ≤ length frame
-      → drop i (form (fieldsOf (dlcIn frame))) ≡ replicate n v ++ f → take n (drop i frame) ≡ replicate n v
+      → drop i (form (dlcIn frame)) ≡ replicate n v ++ f → take n (drop i frame) ≡ replicate n v
   fixed-part i n v f h enough e =
       fits-fixed n v f (drop i frame) h (below-from i) (omega (arith, length-drop i frame)) (fits-from i (replicate n v ++ f) e)
 
@@ -86,11 +86,12 @@ module _ (frame : List ℕ) (right : Right frame) where
   -- ---- the parts, each with all that stands behind it
 
   header-part : frame ≡ header (identifierIn frame) (dlcIn frame) ++ drop 19 frame
-  unfolding identifierIn dlcIn header
+  unfolding identifierIn header
   header-part =
       let start = fixed-part 0 1 0 _ (lit< tt) (omega (arith, long)) (form-is (dlcIn frame)) in
       let fixed = fixed-part 12 3 0 _ (lit< tt) (omega (arith, long)) (ap (drop 12) (form-is (dlcIn frame))) in
-      let dlc = cut 15 4 ∙ ap (_++ drop 19 frame) (number-part 15 4 (omega (arith, long))) in
+      let there = dlc-there frame (omega (arith, long)) in
+      let dlc = cut 15 4 ∙ ap (_++ drop 19 frame) (number-part 15 4 (omega (arith, long)) ∙ ap (bits 4) (sym there)) in
       cut 0 1 ∙ ap (_++ drop 1 frame) start
       ∙ ap (0 ∷_)
       (cut 1 11 ∙ ap₂ _++_ (number-part 1 11 (omega (arith, long))) (cut 12 3 ∙ ap₂ _++_ fixed dlc)
@@ -103,6 +104,13 @@ module _ (frame : List ℕ) (right : Right frame) where
   pub field-there : fieldFrom (dlcIn frame) (dataIn frame) ≡ fieldIn frame
   unfolding dataIn
   field-there = from-number (dlcIn frame) (dataIn frame) (fieldIn frame) bytes-below (sym field-bytes) (ap (number 0) (sym data-bits))
+
+  pub data-fits : dataIn frame < 2 ^ (8 * dlcIn frame)
+  unfolding dataIn
+  data-fits =
+      let part = take (8 * dlcIn frame) (drop 19 frame) in
+      let size : length part ≡ 8 * dlcIn frame = length-take-le _ (drop 19 frame) (omega (arith, length-drop 19 frame, long)) in
+      rw size at (number-below part (below-take 2 (8 * dlcIn frame) (drop 19 frame) (below-from 19)))
 
   data-part : drop 19 frame ≡ unpacked 8 (fieldIn frame) ++ drop (crcStart frame) frame
   unfolding crcStart
@@ -135,12 +143,12 @@ module _ (frame : List ℕ) (right : Right frame) where
       ∙ ap (_++ drop (start + 15) frame)
       (number-part start 15 (omega (arith, right .long)) ∙ ap (bits 15) (right .check ∙ ap crc front-is))
 
-  ending-form : drop (crcStart frame + 15) (form (fieldsOf (dlcIn frame))) ≡ ending either
+  ending-form : drop (crcStart frame + 15) (form (dlcIn frame)) ≡ ending either
   unfolding crcStart
   ending-form =
       let n = dlcIn frame in
       let before = headerForm ++ (dataForm n ++ crcForm) in
-      let joined : form (fieldsOf n) ≡ before ++ ending either
+      let joined : form n ≡ before ++ ending either
       = form-is n ∙ ap (headerForm ++_) (sym (append-assoc (dataForm n) crcForm (ending either))) in
       let size : length before ≡ crcStart frame + 15 = simp (length-append, length-replicate) (omega arith) in
       ap (drop (crcStart frame + 15)) joined ∙ drop-at before (ending either) (crcStart frame + 15) size

@@ -3,34 +3,39 @@
 --     from-refused    the first problem met is the answer
 use mathlib.Core.Path.{_≡_, refl, sym, ap, ap₂, _∙_}
 use mathlib.Core.List.{List}
-use Prim.Native.Nat.{ℕ}
+use Prim.Native.Nat.{ℕ, _*_, _^_, _<_}
 use native.Mathlib.Omega.{arith}
 use Rattle.refusals.specs.declared.Refusal.{Refusal}
 use Rattle.field.specs.Coded.{fieldFrom}
 use Rattle.decoding.specs.Decode.{decodeAnswer, payloadOf}
-use Rattle.scanning.specs.Scan.{dlcIn, Scanned, whole, stopped, scanned}
-use Rattle.scanning.specs.Held.{identifierIn, dataIn, heldIn}
+use Rattle.decoding.specs.Number.{numberAnswer}
+use Rattle.decoding.proofs.NumberAnswers.{number-fits}
+use Rattle.scanning.specs.Scan.{identifierIn, dlcIn, Scanned, whole, stopped, scanned}
+use Rattle.scanning.specs.Held.{dataIn, heldIn}
 use Rattle.scanning.specs.declared.Held.the-variants as held
 use Rattle.line.specs.Read.{fieldIn, withIdentifier, readAnswer, payloadIn}
 use Rattle.line.specs.declared.Line.the-variants.{Refused}
 use Rattle.line.proofs.ReadAnswers.{read-stopped, read-whole, payload-whole}
-use Rattle.line.proofs.FrameOf.{field-there}
+use Rattle.line.proofs.FrameOf.{field-there, data-fits}
 use Rattle.line.proofs.RoundTrip.{line-scanned}
 
 module _ (line : List ℕ) where
   pub from-held : (identifier n v room : ℕ) → heldIn (scanned line) ≡ held.Frame identifier n v
-      → (withIdentifier identifier (decodeAnswer (fieldFrom n v) room) ≡ readAnswer line room) × (payloadOf (fieldFrom n v) ≡ payloadIn line)
+      → (withIdentifier identifier (numberAnswer n v room) ≡ readAnswer line room) × (payloadOf (fieldFrom n v) ≡ payloadIn line)
   from-held identifier n v room e = go (scanned line) refl e
     where
       go : (s : Scanned) → scanned line ≡ s → heldIn s ≡ held.Frame identifier n v
-          → (withIdentifier identifier (decodeAnswer (fieldFrom n v) room) ≡ readAnswer line room) × (payloadOf (fieldFrom n v) ≡ payloadIn line)
+          → (withIdentifier identifier (numberAnswer n v room) ≡ readAnswer line room) × (payloadOf (fieldFrom n v) ≡ payloadIn line)
       go (stopped refusal) p q = let z : _≡_ {A = ℕ} 0 1 = cc in absurd (omega arith)
       go (whole frame) p q =
           let same : identifier ≡ identifierIn frame = cc in
           let bytes : n ≡ dlcIn frame = cc in
           let data-bits : v ≡ dataIn frame = cc in
-          let field : fieldFrom n v ≡ fieldIn frame = ap₂ fieldFrom bytes data-bits ∙ field-there frame (line-scanned line frame p .0) in (
-            ap₂ (λ (i : ℕ) (l : List ℕ). withIdentifier i (decodeAnswer l room)) same field ∙ sym (read-whole line frame room p),
+          let right = line-scanned line frame p .0 in
+          let field : fieldFrom n v ≡ fieldIn frame = ap₂ fieldFrom bytes data-bits ∙ field-there frame right in
+          let fits : v < 2 ^ (8 * n) = rw (bytes, data-bits) (data-fits frame right) in (
+            ap (withIdentifier identifier) (number-fits n v room fits)
+                ∙ ap₂ (λ (i : ℕ) (l : List ℕ). withIdentifier i (decodeAnswer l room)) same field ∙ sym (read-whole line frame room p),
             ap payloadOf field ∙ sym (payload-whole line frame p),
           )
 

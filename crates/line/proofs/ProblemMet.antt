@@ -1,7 +1,8 @@
 -- What the first problem is: the verdict on the bit at its place, from what is known there; or the line ends before the frame does.
 -- Assumes nothing.
---     problem-met     of a line that is refused for its bits
---     right-before    the verdict on each bit to the left of that place is right
+--     Met, problem-met    of a line that is refused for its bits
+--     RightBefore, right-before    the verdict on each bit to the left of that place is right
+--     problem-stops   where both hold, the line is refused so
 use mathlib.Core.Path.{_≡_, refl, sym, ap, _∙_}
 use mathlib.Core.Bool.{Bool, true, false, cond}
 use mathlib.Core.List.{List, [], _∷_}
@@ -62,11 +63,23 @@ problem run frame place (bit ∷ line) refusal k e p =
         inl (omega arith, ap (λ (n : ℕ). verdict run frame n bit) (sym here) ∙ d ∙ ap wrong (stopped-only q))
     go (wrong r) d a q (suc j) p later from = absurd (omega (arith, p, a .0, ap placeOf (stopped-only q)))
 
-pub problem-met : (line : List ℕ) (refusal : Refusal) → scanned line ≡ stopped refusal →
-    let before = take (placeOf refusal) line in
-    ((placeOf refusal < length line)
-    × (verdict (runBehind nothingSent before) (frameBehind nothingSent [] before) (placeOf refusal) (getD line (placeOf refusal) 0) ≡ wrong refusal))
+-- it is met at the refusal's place; and each bit to the left of that is right
+abbrev pub Met : List ℕ → Refusal → Type 0
+Met line refusal =
+    let place = placeOf refusal in
+    let run = runBehind nothingSent (take place line) in
+    let frame = frameBehind nothingSent [] (take place line) in
+    ((place < length line) × (verdict run frame place (getD line place 0) ≡ wrong refusal))
     ⊎ ((refusal ≡ LineLength (length line)) × (complete (frameBehind nothingSent [] line) ≡ false))
+
+abbrev pub RightBefore : List ℕ → Refusal → Type 0
+RightBefore line refusal =
+    (k : ℕ) → k < placeOf refusal →
+    let run = runBehind nothingSent (take k line) in
+    let frame = frameBehind nothingSent [] (take k line) in
+    verdict run frame k (getD line k 0) ≡ right
+
+pub problem-met : (line : List ℕ) (refusal : Refusal) → scanned line ≡ stopped refusal → Met line refusal
 unfolding scanned
 problem-met line refusal e =
     let at : 0 + placeOf refusal ≡ placeOf refusal = omega arith in
@@ -109,10 +122,52 @@ rights run frame place (bit ∷ line) refusal j e h =
     go right d a q (suc i) h later = right-next run frame place bit line i (later i q (omega (arith, h)))
     go (wrong r) d a q j h later = absurd (omega (arith, h, a .0, ap placeOf (stopped-only q)))
 
-pub right-before : (line : List ℕ) (refusal : Refusal) → scanned line ≡ stopped refusal → (k : ℕ) → k < placeOf refusal →
-    let before = take k line in
-    verdict (runBehind nothingSent before) (frameBehind nothingSent [] before) k (getD line k 0) ≡ right
+pub right-before : (line : List ℕ) (refusal : Refusal) → scanned line ≡ stopped refusal → RightBefore line refusal
 unfolding scanned
 right-before line refusal e k h =
     let at : 0 + k ≡ k = omega arith in
     rw at at (rights nothingSent [] 0 line refusal k e (omega arith))
+
+-- ---- and where both hold, the line is refused so
+
+problem-later : (run : Run) (frame : List ℕ) (place bit : ℕ) (line : List ℕ) (refusal : Refusal) (k : ℕ)
+    → Problem run frame place (bit ∷ line) refusal (suc k) → Problem (runWith run bit) (frameWith run frame bit) (place + 1) line refusal k
+unfolding runBehind frameBehind
+problem-later run frame place bit line refusal k (inl (inside, met)) =
+    let count : place + suc k ≡ place + 1 + k = omega arith in
+    inl (omega arith, rw count at met)
+problem-later run frame place bit line refusal k (inr (end, more)) =
+    let count : place + suc (length line) ≡ place + 1 + length line = omega arith in
+    inr (end ∙ ap LineLength count, more)
+
+right-later : (run : Run) (frame : List ℕ) (place bit : ℕ) (line : List ℕ) (j : ℕ)
+    → RightAt run frame place (bit ∷ line) (suc j) → RightAt (runWith run bit) (frameWith run frame bit) (place + 1) line j
+unfolding runBehind frameBehind
+right-later run frame place bit line j met = let count : place + suc j ≡ place + 1 + j = omega arith in rw count at met
+
+met-stops : (run : Run) (frame : List ℕ) (place : ℕ) (line : List ℕ) (refusal : Refusal) (k : ℕ) → placeOf refusal ≡ place + k
+    → Problem run frame place line refusal k → ((j : ℕ) → j < k → RightAt run frame place line j) → scan run frame place line ≡ stopped refusal
+unfolding scan runBehind frameBehind
+met-stops run frame place [] refusal k p (inl (inside, met)) before = absurd (omega (arith, inside))
+met-stops run frame place [] refusal k p (inr (end, more)) before =
+    let here : place ≡ place + 0 = omega arith in
+    rw more (ap (λ (n : ℕ). stopped (LineLength n)) here ∙ ap stopped (sym end))
+met-stops run frame place (bit ∷ line) refusal zero p (inl (inside, met)) before =
+    let here : place ≡ place + 0 = omega arith in
+    let wrong-is : verdict run frame place bit ≡ wrong refusal = ap (λ (n : ℕ). verdict run frame n bit) here ∙ met in
+    rw wrong-is
+met-stops run frame place (bit ∷ line) refusal zero p (inr (end, more)) before = absurd (omega (arith, p, ap placeOf end))
+met-stops run frame place (bit ∷ line) refusal (suc k) p problem before =
+    let here : place ≡ place + 0 = omega arith in
+    let right-is : verdict run frame place bit ≡ right = ap (λ (n : ℕ). verdict run frame n bit) here ∙ before 0 (omega arith) in
+    rw right-is
+    (met-stops (runWith run bit) (frameWith run frame bit) (place + 1) line refusal k (omega (arith, p))
+    (problem-later run frame place bit line refusal k problem) (λ j h. right-later run frame place bit line j (before (suc j) (omega arith))))
+
+pub problem-stops : (line : List ℕ) (refusal : Refusal) → Met line refusal → RightBefore line refusal → scanned line ≡ stopped refusal
+unfolding scanned
+problem-stops line refusal met before =
+    let at : 0 + placeOf refusal ≡ placeOf refusal = omega arith in
+    let end : 0 + length line ≡ length line = omega arith in
+    met-stops nothingSent [] 0 line refusal (placeOf refusal) (sym at) (rw (at, end) met)
+    (λ j h. let here : 0 + j ≡ j = omega arith in rw here (before j h))

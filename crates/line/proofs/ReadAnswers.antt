@@ -2,20 +2,20 @@
 --     read-stopped     the first problem met is the answer, whatever the room
 --     read-whole       where the bits are right, decoding the data field decides
 --     payload-whole    and its words carry the payload
---     answer-alone     what a lent buffer goes by is what decoding the data field answers
+--     buffer-alone     what a lent buffer goes by is what decoding the data field answers
 --     line-only        the document's numbers tell which answer it is
 use mathlib.Core.Path.{_≡_, refl, sym, ap, ap₂}
 use mathlib.Core.List.{List}
 use Prim.Native.Nat.{ℕ}
-use lib.ListN.{getD}
 use Rattle.refusals.specs.declared.Answer.{Answer}
 use Rattle.refusals.specs.declared.Answer.the-variants as answer
 use Rattle.refusals.specs.declared.Refusal.{Refusal}
+use Rattle.refusals.specs.After.{after}
+use Rattle.refusals.specs.Table.{Numbers, answerNumbers}
 use Rattle.refusals.proofs.Table.{refusal-only, number-some}
 use Rattle.decoding.specs.Decode.{decodeAnswer, payloadOf}
-use Rattle.scanning.specs.Scan.{Scanned, whole, stopped, scanned}
-use Rattle.scanning.specs.Held.{identifierIn}
-use Rattle.line.specs.Read.{fieldIn, withIdentifier, decoded, readAnswer, carried, payloadIn, answerOf, lineNumbers}
+use Rattle.scanning.specs.Scan.{identifierIn, Scanned, whole, stopped, scanned}
+use Rattle.line.specs.Read.{fieldIn, withIdentifier, decoded, readAnswer, carried, payloadIn, lineNumbers}
 use Rattle.line.specs.declared.Line.{Line}
 use Rattle.line.specs.declared.Line.the-variants.{Frame, Refused}
 
@@ -33,13 +33,14 @@ pub payload-whole : (line frame : List ℕ) → scanned line ≡ whole frame →
 unfolding payloadIn
 payload-whole line frame e = ap carried e
 
-pub answer-alone : (identifier : ℕ) (a : Answer) → answerOf (withIdentifier identifier a) ≡ a
-answer-alone identifier (answer.Length n) = refl
-answer-alone identifier (answer.Refused refusal) = refl
+pub buffer-alone : (identifier : ℕ) (a : Answer) (result old : List ℕ)
+    → after (lineNumbers (withIdentifier identifier a)) result old ≡ after (answerNumbers a) result old
+buffer-alone identifier (answer.Length n) result old = refl
+buffer-alone identifier (answer.Refused refusal) result old = refl
 
 pub line-only : (a b : Line) → lineNumbers a ≡ lineNumbers b → a ≡ b
-line-only (Frame i m) (Frame j n) e = ap₂ Frame (ap (λ (l : List ℕ). getD l 1 0) e) (ap (λ (l : List ℕ). getD l 2 0) e)
-line-only (Frame i m) (Refused r) e = absurd (number-some r (ap (λ (l : List ℕ). getD l 0 0) e))
-line-only (Refused r) (Frame j n) e = absurd (number-some r (sym (ap (λ (l : List ℕ). getD l 0 0) e)))
+line-only (Frame i m) (Frame j n) e = ap₂ Frame (ap (λ (x : Numbers). x .high) e) (ap (λ (x : Numbers). x .low) e)
+line-only (Frame i m) (Refused r) e = absurd (number-some r (ap (λ (x : Numbers). x .refusal) e))
+line-only (Refused r) (Frame j n) e = absurd (number-some r (sym (ap (λ (x : Numbers). x .refusal) e)))
 line-only (Refused r) (Refused q) e =
-    ap Refused (refusal-only r q (ap (λ (l : List ℕ). getD l 0 0) e) (ap (λ (l : List ℕ). getD l 1 0) e))
+    ap Refused (refusal-only r q (ap (λ (x : Numbers). x .refusal) e) (ap (λ (x : Numbers). x .low) e))

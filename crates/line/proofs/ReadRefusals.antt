@@ -1,14 +1,16 @@
 -- The refusals of a line. Assumes nothing.
+--     read-numbers     2 to 7 and 9 to 13
 --     bits-refused     3 and 9 to 13 come from its bits, whatever the room
---     field-refused    2 and 4 to 7 only where it is the line of a frame, the ACK slot apart, from decoding the data field of that
+--     FieldRefused, field-refused    2 and 4 to 7 only where it is the line of a frame, the ACK slot apart, whose data field is refused so
+--     refused-field    and wherever it is
 --     first-problem    a line that is refused for one of its bits is refused so whatever follows that bit
 --     first-of-all     and nothing to the left of that bit is wrong
 --     cut-line         an accepted line, cut anywhere, is refused with 11 at its length
 --     longer-line      and with bits added, with 11 at the first of them
 use mathlib.Core.Path.{_≡_, refl, sym, ap, _∙_, subst}
 use mathlib.Core.List.{List, _∷_, _++_}
-use mathlib.Core.Logic.{_⊎_, inl, inr}
-use Prim.Native.Nat.{ℕ, _+_, _<_}
+use mathlib.Core.Logic.{_≢_, _⊎_, inl, inr}
+use Prim.Native.Nat.{ℕ, _+_, _≤_, _<_}
 use native.Mathlib.Omega.{arith}
 use lib.ListN.{length, take}
 use Rattle.bits.specs.Below.{Below}
@@ -19,29 +21,35 @@ use Rattle.refusals.specs.declared.Refusal.the-variants.{LineLength}
 use Rattle.refusals.specs.Table.{numberOf, placeOf}
 use Rattle.decoding.specs.Decode.{decodeAnswer}
 use Rattle.decoding.proofs.FieldParts.{LengthAllowed}
-use Rattle.decoding.proofs.DecodeAnswers.{OfField, decode-numbers}
+use Rattle.decoding.proofs.DecodeGiven.{decode-numbers}
 use Rattle.frame.specs.Line.{frameLine}
-use Rattle.scanning.specs.Scan.{Scanned, whole, stopped, scanned}
-use Rattle.scanning.specs.Held.{identifierIn}
+use Rattle.scanning.specs.Scan.{identifierIn, Scanned, whole, stopped, scanned}
 use Rattle.line.specs.Ack.{withAck}
 use Rattle.line.specs.Read.{fieldIn, withIdentifier, decoded, readAnswer}
 use Rattle.line.specs.declared.Line.the-variants.{Frame, Refused}
+use Rattle.line.proofs.AckSlot.{ack-found}
 use Rattle.line.proofs.ReadAnswers.{read-stopped}
 use Rattle.line.proofs.FirstProblem.{OfBits, stopped-at, stopped-stays, cut-before, cut-short, made-longer}
-use Rattle.line.proofs.FrameOf.{field-bytes}
-use Rattle.line.proofs.RoundTrip.{line-scanned}
-
-only-field : (refusal : Refusal) → OfField (answer.Refused refusal) → OfBits refusal → ⊥
-only-field refusal h (inl three) = h .0 three
-only-field refusal h (inr above) = omega (arith, h .1, above .0)
+use Rattle.line.proofs.FrameOf.{identifier-few, field-bytes, bytes-below}
+use Rattle.line.proofs.RoundTrip.{read-frame, line-scanned}
 
 -- where the bits are right, what decoding refuses with
-from-field : (identifier : ℕ) (a : Answer) (refusal : Refusal) → OfField a → withIdentifier identifier a ≡ Refused refusal
-    → (OfBits refusal → ⊥) × (a ≡ answer.Refused refusal)
-from-field identifier (answer.Length n) refusal h e = let z : _≡_ {A = ℕ} 0 1 = cc in absurd (omega arith)
-from-field identifier (answer.Refused r) refusal h e =
-    let same : r ≡ refusal = cc in
-    (only-field refusal (subst (λ (x : Refusal). OfField (answer.Refused x)) same h), ap answer.Refused same)
+from-field : (identifier : ℕ) (a : Answer) (refusal : Refusal) → withIdentifier identifier a ≡ Refused refusal → a ≡ answer.Refused refusal
+from-field identifier (answer.Length n) refusal e = let z : _≡_ {A = ℕ} 0 1 = cc in absurd (omega arith)
+from-field identifier (answer.Refused r) refusal e = cc
+
+-- the line of a frame, the ACK slot apart, whose data field decoding refuses so
+abbrev pub FieldRefused : List ℕ → ℕ → Refusal → Type 0
+FieldRefused line room refusal =
+    (identifier : ℕ) × (field : List ℕ) × (identifier ≤ 2047) × Below 256 field × (length field ≢ 1) × (length field ≤ 8)
+    × (withAck 1 line ≡ frameLine identifier field) × Below 2 line × (decodeAnswer field room ≡ answer.Refused refusal)
+
+pub refused-field : (line : List ℕ) (room : ℕ) (refusal : Refusal) → FieldRefused line room refusal → readAnswer line room ≡ Refused refusal
+refused-field line room refusal (identifier, field, known, bytes, not-one, few, is, below, refused) =
+    let slot = ack-found line (frameLine identifier field) is below in
+    ap (λ (l : List ℕ). readAnswer l room) (slot .2)
+    ∙ read-frame identifier field (slot .0) room known bytes few not-one (slot .1)
+    ∙ ap (withIdentifier identifier) refused
 
 -- a data field that stands in a line has a length that a field may have
 allowed : (line frame : List ℕ) → scanned line ≡ whole frame → LengthAllowed (fieldIn frame)
@@ -51,32 +59,60 @@ allowed line frame e =
     record { not-one = λ one. right .not-one (sym bytes ∙ one); at-most = omega (arith, bytes, right .at-most) }
 
 module _ (line : List ℕ) (room : ℕ) (refusal : Refusal) (e : readAnswer line room ≡ Refused refusal) where
-  decoding : (frame : List ℕ) → scanned line ≡ whole frame → decoded (whole frame) room ≡ Refused refusal
-      → (OfBits refusal → ⊥) × (decodeAnswer (fieldIn frame) room ≡ answer.Refused refusal)
-  decoding frame d q =
-      let field = fieldIn frame in
-      from-field (identifierIn frame) (decodeAnswer field room) refusal (decode-numbers field room (allowed line frame d)) q
+  decoding : (frame : List ℕ) → decoded (whole frame) room ≡ Refused refusal → decodeAnswer (fieldIn frame) room ≡ answer.Refused refusal
+  decoding frame q = from-field (identifierIn frame) (decodeAnswer (fieldIn frame) room) refusal q
+
+  -- the numbers that decoding has for a field in a line: 2, and 4 to 7
+  numbers : (frame : List ℕ) → scanned line ≡ whole frame → decoded (whole frame) room ≡ Refused refusal
+      → (2 ≤ numberOf refusal) × (numberOf refusal ≢ 3) × (numberOf refusal ≤ 7)
+  numbers frame d q = decode-numbers (fieldIn frame) room (allowed line frame d) refusal (decoding frame q)
+
+  pub read-numbers : (2 ≤ numberOf refusal) × (numberOf refusal ≢ 8) × (numberOf refusal ≤ 13)
+  unfolding readAnswer
+  read-numbers = go (scanned line) refl e
+    where
+      bits : OfBits refusal → (2 ≤ numberOf refusal) × (numberOf refusal ≢ 8) × (numberOf refusal ≤ 13)
+      bits (inl three) = (omega (arith, three), λ eight. omega (arith, three, eight), omega (arith, three))
+      bits (inr above) = (omega (arith, above .0), λ eight. omega (arith, above .0, eight), omega (arith, above .1))
+
+      go : (s : Scanned) → scanned line ≡ s → decoded s room ≡ Refused refusal
+          → (2 ≤ numberOf refusal) × (numberOf refusal ≢ 8) × (numberOf refusal ≤ 13)
+      go (stopped r) d q = let same : r ≡ refusal = cc in bits (subst OfBits same (stopped-at line r d .own))
+      go (whole frame) d q =
+          let h = numbers frame d q in
+          (h .0, λ eight. omega (arith, h .2, eight), omega (arith, h .2))
 
   pub bits-refused : OfBits refusal → scanned line ≡ stopped refusal
   unfolding readAnswer
   bits-refused own = go (scanned line) refl e
     where
+      none : (2 ≤ numberOf refusal) × (numberOf refusal ≢ 3) × (numberOf refusal ≤ 7) → OfBits refusal → ⊥
+      none h (inl three) = h .1 three
+      none h (inr above) = omega (arith, h .2, above .0)
+
       go : (s : Scanned) → scanned line ≡ s → decoded s room ≡ Refused refusal → s ≡ stopped refusal
       go (stopped r) d q = cc
-      go (whole frame) d q =
-          absurd (decoding frame d q .0 own)
+      go (whole frame) d q = absurd (none (numbers frame d q) own)
 
-  pub field-refused : (OfBits refusal → ⊥)
-      → (identifier : ℕ) × (field : List ℕ) × (withAck 1 line ≡ frameLine identifier field) × Below 2 line
-      × (decodeAnswer field room ≡ answer.Refused refusal)
+  pub field-refused : (OfBits refusal → ⊥) → FieldRefused line room refusal
   unfolding readAnswer
   field-refused other = go (scanned line) refl e
     where
-      go : (s : Scanned) → scanned line ≡ s → decoded s room ≡ Refused refusal
-          → (identifier : ℕ) × (field : List ℕ) × (withAck 1 line ≡ frameLine identifier field) × Below 2 line
-          × (decodeAnswer field room ≡ answer.Refused refusal)
+      go : (s : Scanned) → scanned line ≡ s → decoded s room ≡ Refused refusal → FieldRefused line room refusal
       go (stopped r) d q = let same : r ≡ refusal = cc in absurd (other (subst OfBits same (stopped-at line r d .own)))
-      go (whole frame) d q = (identifierIn frame, fieldIn frame, line-scanned line frame d .1, line-scanned line frame d .2, decoding frame d q .1)
+      go (whole frame) d q =
+          let scan = line-scanned line frame d in
+          let may = allowed line frame d in (
+            identifierIn frame,
+            fieldIn frame,
+            identifier-few frame (scan .0),
+            bytes-below frame (scan .0),
+            may .not-one,
+            may .at-most,
+            scan .1,
+            scan .2,
+            decoding frame q,
+          )
 
   -- and nothing to the left of that bit is wrong
   pub first-of-all : (k room′ : ℕ) → OfBits refusal → k < placeOf refusal → readAnswer (take k line) room′ ≡ Refused (LineLength k)

@@ -15,7 +15,7 @@ use Rattle.bits.specs.Below.{Below}
 use Rattle.bits.specs.Rows.{number}
 use Rattle.bits.proofs.Below.{below-drop}
 use Rattle.crc.specs.Crc.{crc}
-use Rattle.scanning.specs.Fields.{fieldsOf, form}
+use Rattle.scanning.specs.Form.{form}
 use Rattle.scanning.specs.Scan.{dlcIn, crcStart, complete, dlcRefused, crcRight}
 use Rattle.scanning.proofs.Verdicts.{dlc-taken, taken-dlc}
 use Rattle.scanning.proofs.Partial.{start-least, dlc-stays, start-stays, must-stays}
@@ -25,7 +25,7 @@ use Rattle.line.proofs.Fits.{Fits, fits-at, at-fits}
 pub record Right (frame : List ℕ) : Type 0 where
   pub below : Below 2 frame
   pub long : length frame ≡ crcStart frame + 25
-  pub fits : Fits (form (fieldsOf (dlcIn frame))) frame
+  pub fits : Fits (form (dlcIn frame)) frame
   pub not-one : dlcIn frame ≡ 1 → ⊥
   pub at-most : dlcIn frame ≤ 8
   pub check : number 0 (take 15 (drop (crcStart frame) frame)) ≡ crc (take (crcStart frame) frame)
@@ -80,7 +80,7 @@ next-bit frame l b right =
       more =
           ne-eqb (length frame) (crcStart frame + 25)
           (λ e. omega (arith, start-stays frame (b ∷ l) (omega (arith, start-least frame))));
-      fits = rw (must-stays frame (b ∷ l)) (fits-at (form (fieldsOf (dlcIn (frame ++ (b ∷ l))))) frame l b (right .fits));
+      fitting = rw (must-stays frame (b ∷ l)) (fits-at (form (dlcIn (frame ++ (b ∷ l)))) frame l b (right .fits));
       dlc = dlc-right (frame ++ (b ∷ [])) l longer;
       check = crc-right (frame ++ (b ∷ [])) l longer;
     }
@@ -117,10 +117,10 @@ right-crc frame l h e =
     ∙ sym (ap crc (front-read frame l h))
 
 module _ (all : List ℕ) (sound : Sound [] all) where
-  sound-fits : Fits (form (fieldsOf (dlcIn all))) all
+  sound-fits : Fits (form (dlcIn all)) all
   sound-fits =
-      at-fits (form (fieldsOf (dlcIn all))) all
-      (λ g m b e. rw (← e, ← must-stays g (b ∷ m)) (sound-at [] g m b (rw e sound) .fits))
+      at-fits (form (dlcIn all)) all
+      (λ g m b e. rw (← e, ← must-stays g (b ∷ m)) (sound-at [] g m b (rw e sound) .fitting))
 
   -- the tests once the bit at a position is among the frame's
   tests-at : (i : ℕ) → i < length all → (dlcWrong (take (suc i) all) ≡ false) × (crcWrong (take (suc i) all) ≡ false)

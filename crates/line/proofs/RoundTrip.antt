@@ -5,6 +5,7 @@
 --     Coded           a line is that of an identifier and a payload, but for the bit in the ACK slot
 --     line-scanned    a line whose bits are all right is that of a frame, but for the bit in the ACK slot
 --     accepted-is-coded    whatever reading accepts is that of the identifier and the payload that it gives
+--     coded-is-accepted    and each such line is accepted where the payload has room
 --     accepted-below  each of its bytes is 0 or 1
 --     one-line        accepted lines that give one identifier and one payload are one, but for the bit in the ACK slot
 use mathlib.Core.Path.{_≡_, refl, sym, ap, ap₂, _∙_}
@@ -25,13 +26,12 @@ use Rattle.decoding.proofs.Accepted.{accepted}
 use Rattle.decoding.proofs.RoundTrip.{decode-encode, payload-of-field, field-of-payload}
 use Rattle.frame.specs.Line.{frameLine}
 use Rattle.frame.specs.Answers.{payloadLine}
-use Rattle.scanning.specs.Scan.{Scanned, whole, stopped, scanned}
-use Rattle.scanning.specs.Held.{identifierIn}
+use Rattle.scanning.specs.Scan.{identifierIn, Scanned, whole, stopped, scanned}
 use Rattle.line.specs.Read.{fieldIn, withIdentifier, decoded, readAnswer, payloadIn}
 use Rattle.line.specs.Ack.{withAck}
 use Rattle.line.specs.declared.Line.the-variants.{Frame}
 use Rattle.line.proofs.OnLine.{lineFrom, sound-whole, whole-sound}
-use Rattle.line.proofs.AckSlot.{line-own, ack-again}
+use Rattle.line.proofs.AckSlot.{line-own, ack-again, ack-found}
 use Rattle.line.proofs.LineOf.{line-of}
 use Rattle.line.proofs.Right.{Right, right-sound, sound-right}
 use Rattle.line.proofs.FrameBits.{headerBits, dataBits, frameBits, frame-start, frame-right, identifier-back, field-back}
@@ -140,6 +140,12 @@ with-identifier : (i identifier n : ℕ) (a : Answer) → withIdentifier i a ≡
     → (i ≡ identifier) × (a ≡ answer.Length n)
 with-identifier i identifier n (answer.Length m) e = (cc, cc)
 with-identifier i identifier n (answer.Refused refusal) e = let z : _≡_ {A = ℕ} 0 1 = cc in absurd (omega arith)
+
+pub coded-is-accepted : (line : List ℕ) (room identifier : ℕ) (payload : List ℕ) → withAck 1 line ≡ payloadLine identifier payload → Below 2 line
+    → identifier ≤ 2047 → Below 256 payload → length payload ≤ 7 → length payload ≤ room → readAnswer line room ≡ Frame identifier (length payload)
+coded-is-accepted line room identifier payload is below known bytes short fits =
+    let slot = ack-found line (payloadLine identifier payload) is below in
+    ap (λ (l : List ℕ). readAnswer l room) (slot .2) ∙ read-made identifier payload (slot .0) room known bytes short fits (slot .1) .0
 
 module _ (line : List ℕ) (room identifier n : ℕ) (e : readAnswer line room ≡ Frame identifier n) where
   pub accepted-is-coded : Coded line room identifier n

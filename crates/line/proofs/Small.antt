@@ -1,6 +1,6 @@
--- How large the numbers of an answer are, of a line: refusal's number, and length or place. Between two of a frame's bits stands at
--- most one stuff bit, and a frame has at most 108 bits: no place is above 216, however long the line. Assumes nothing.
---     read-small    each is at most 216
+-- How large a length or place reading a line answers. Between two of a frame's bits stands at most one stuff bit, and a frame has at
+-- most 108 bits: no place is above 216, however long the line. Assumes nothing.
+--     read-small    at most 216; and an identifier at most 2047
 use mathlib.Core.Path.{_≡_, refl, ap, _∙_}
 use mathlib.Core.Bool.{Bool, true, false, cond, _&&_}
 use mathlib.Core.List.{List, [], _∷_, _++_}
@@ -11,21 +11,19 @@ use lib.Dec.{lit<, eqb, ltb}
 use lib.ListN.{length, length-append}
 use borrow.Author.Tests.{eqb-true, eqb-false, ltb-true, ltb-false, ne-eqb}
 use Rattle.bits.specs.declared.Run.{Run}
-use Rattle.bits.specs.Below.{Below}
 use Rattle.bits.specs.Stuffing.{nothingSent}
 use Rattle.refusals.specs.declared.Answer.{Answer}
 use Rattle.refusals.specs.declared.Answer.the-variants as answer
 use Rattle.refusals.specs.declared.Refusal.{Refusal}
 use Rattle.refusals.specs.declared.Refusal.the-variants.{LineLength}
 use Rattle.refusals.specs.Table.{placeOf, answerNumbers}
-use Rattle.refusals.proofs.Table.{number-in-table}
+use Rattle.refusals.proofs.Table.{high-none}
 use Rattle.decoding.specs.Decode.{decodeAnswer}
 use Rattle.decoding.proofs.Small.{decode-small}
-use Rattle.scanning.specs.Scan.{dlcIn, crcStart, complete, stuffDue, Verdict, right, wrong, verdict, runWith, frameWith, Scanned, whole, stopped, onward, scan, scanned}
-use Rattle.scanning.specs.Held.{identifierIn}
+use Rattle.scanning.specs.Scan.{identifierIn, dlcIn, crcStart, complete, stuffDue, Verdict, right, wrong, verdict, runWith, frameWith, Scanned, whole, stopped, onward, scan, scanned}
 use Rattle.scanning.proofs.Verdicts.{taken-dlc}
 use Rattle.scanning.proofs.Partial.{dlc-stays}
-use Rattle.line.specs.Read.{fieldIn, withIdentifier, decoded, readAnswer, answerOf}
+use Rattle.line.specs.Read.{fieldIn, withIdentifier, decoded, readAnswer, lineNumbers}
 use Rattle.line.specs.declared.Line.{Line}
 use Rattle.line.specs.declared.Line.the-variants.{Frame, Refused}
 use Rattle.line.proofs.Sound.{Next, bit-right, stuff-right}
@@ -122,12 +120,12 @@ stop-few run frame place (bit ∷ line) refusal few close e =
     go (wrong r) d at q later = omega (arith, ap placeOf (stopped-only q), at .0, few-most frame few, close .near)
 
 -- out of the data field
-field-few : (identifier : ℕ) (a : Answer) (refusal : Refusal) → Below 8 (answerNumbers a) → withIdentifier identifier a ≡ Refused refusal
+field-few : (identifier : ℕ) (a : Answer) (refusal : Refusal) → answerNumbers a .low < 8 → withIdentifier identifier a ≡ Refused refusal
     → placeOf refusal ≤ 216
 field-few identifier (answer.Length n) refusal small e = let z : _≡_ {A = ℕ} 0 1 = cc in absurd (omega arith)
 field-few identifier (answer.Refused r) refusal small e =
     let same : r ≡ refusal = cc in
-    omega (arith, ap placeOf same, small .1 .0)
+    omega (arith, ap placeOf same, small)
 
 place-few : (line : List ℕ) (room : ℕ) (refusal : Refusal) → readAnswer line room ≡ Refused refusal → placeOf refusal ≤ 216
 unfolding readAnswer scanned
@@ -140,9 +138,13 @@ place-few line room refusal e = go (scanned line) refl e
         stop-few nothingSent [] 0 line refusal (inl (lit< tt)) start (d ∙ ap stopped same)
     go (whole frame) d q = field-few (identifierIn frame) (decodeAnswer (fieldIn frame) room) refusal (decode-small (fieldIn frame) room) q
 
-pub read-small : (line : List ℕ) (room : ℕ) → Below 217 (answerNumbers (answerOf (readAnswer line room)))
+pub read-small : (line : List ℕ) (room : ℕ) →
+    let numbers = lineNumbers (readAnswer line room) in
+    (numbers .low < 217) × (numbers .high < 2048)
 read-small line room = go (readAnswer line room) refl
   where
-    go : (l : Line) → readAnswer line room ≡ l → Below 217 (answerNumbers (answerOf l))
-    go (Frame identifier n) e = (lit< tt, (omega (arith, accepted-is-coded line room identifier n e .short), tt))
-    go (Refused refusal) e = (omega (arith, number-in-table refusal .1), (omega (arith, place-few line room refusal e), tt))
+    go : (l : Line) → readAnswer line room ≡ l → (lineNumbers l .low < 217) × (lineNumbers l .high < 2048)
+    go (Frame identifier n) e =
+        let coded = accepted-is-coded line room identifier n e in
+        (omega (arith, coded .short), omega (arith, coded .known))
+    go (Refused refusal) e = (omega (arith, place-few line room refusal e), omega (arith, high-none refusal))

@@ -6,7 +6,7 @@
 --     stuff-right, right-stuff   where one is due, it finds none with the other bit than the run's
 --     due-no-more     in a complete frame no stuff bit is due
 use mathlib.Core.Path.{_≡_, refl, sym, _∙_}
-use mathlib.Core.Bool.{Bool, true, false, cond, not, _&&_, and-false}
+use mathlib.Core.Bool.{Bool, true, false, cond, not, _&&_, and-false, true≢false}
 use mathlib.Core.List.{List, [], _∷_, _++_}
 use Prim.Native.Nat.{ℕ, _+_, _-_, _<_}
 use native.Mathlib.Omega.{arith}
@@ -16,6 +16,7 @@ use borrow.Author.Tests.{ltb-false, eqb-true, eqb-false, lt-leb}
 use Rattle.bits.specs.declared.Run.{Run}
 use Rattle.refusals.specs.declared.Refusal.{Refusal}
 use Rattle.frame.specs.Line.{stuffedCrcBits}
+use Rattle.scanning.specs.Form.{fits}
 use Rattle.scanning.specs.Scan.{crcStart, complete, stuffDue, mustBe, dlcRefused, crcRight, shown, Verdict, right, wrong, verdict}
 use Rattle.scanning.proofs.Verdicts.{stuff-bit, frame-bit}
 
@@ -28,7 +29,7 @@ crcWrong frame = eqb (length frame) (crcStart frame + 15) && not (crcRight frame
 pub record Next (frame : List ℕ) (bit : ℕ) : Type 0 where
   pub below : bit < 2
   pub more : complete frame ≡ false
-  pub fits : eqb (mustBe frame) (1 - bit) ≡ false
+  pub fitting : fits (mustBe frame) bit ≡ true
   pub dlc : dlcWrong (frame ++ (bit ∷ [])) ≡ false
   pub check : crcWrong (frame ++ (bit ∷ [])) ≡ false
 
@@ -40,18 +41,22 @@ passed : (t : Bool) (refusal : Refusal) (v : Verdict) → cond t (wrong refusal)
 passed true refusal v e = let z : _≡_ {A = ℕ} 0 1 = cc in absurd (omega arith)
 passed false refusal v e = (refl, e)
 
+not-false : (t : Bool) → not t ≡ false → t ≡ true
+not-false true e = refl
+not-false false e = absurd (true≢false e)
+
 module _ (run : Run) (frame : List ℕ) (place bit : ℕ) where
   pub bit-right : stuffDue run frame ≡ false → verdict run frame place bit ≡ right → Next frame bit
   unfolding verdict shown
   bit-right due e =
       let more = passed (complete frame) _ _ e in
       let low = passed (ltb 1 bit) _ _ (more .1) in
-      let fits = passed (eqb (mustBe frame) (1 - bit)) _ _ (rw due at (low .1)) in
-      let dlc = passed (dlcWrong (frame ++ (bit ∷ []))) _ _ (fits .1) in
+      let may = passed (not (fits (mustBe frame) bit)) _ _ (rw due at (low .1)) in
+      let dlc = passed (dlcWrong (frame ++ (bit ∷ []))) _ _ (may .1) in
       record {
         below = omega (arith, ltb-false 1 bit (low .0));
         more = more .0;
-        fits = fits .0;
+        fitting = not-false (fits (mustBe frame) bit) (may .0);
         dlc = dlc .0;
         check = passed (crcWrong (frame ++ (bit ∷ []))) _ _ (dlc .1) .0;
       }
@@ -59,7 +64,7 @@ module _ (run : Run) (frame : List ℕ) (place bit : ℕ) where
   pub right-bit : stuffDue run frame ≡ false → Next frame bit → verdict run frame place bit ≡ right
   unfolding shown
   right-bit due next =
-      frame-bit run frame place bit (next .more) (omega (arith, next .below)) due (eqb-false _ _ (next .fits)) ∙ simp (next .dlc, next .check)
+      frame-bit run frame place bit (next .more) (omega (arith, next .below)) due (next .fitting) ∙ simp (next .dlc, next .check)
 
   pub stuff-right : stuffDue run frame ≡ true → verdict run frame place bit ≡ right → (bit < 2) × (bit ≡ run .bit → ⊥)
   unfolding verdict

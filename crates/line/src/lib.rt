@@ -4,14 +4,14 @@
 ghost use mathlib.Core.Path.{_≡_};
 ghost use lib.ListN.{length};
 ghost use Rattle.refusals.specs.After.{after};
-ghost use Rattle.line.specs.Read.{readAnswer, payloadIn, answerOf};
+ghost use Rattle.line.specs.Read.{readAnswer, payloadIn, lineNumbers};
 
 mod data_field;
 
 use refusals::Refusal;
 use scanning::Held;
 
-// What a line holds: an identifier and a payload, of which this is the length; or a refusal.
+// What a line holds: an identifier and a payload, of which this is the length; or a refusal. [7.5]
 pub enum Line {
     Frame { identifier: u32, length: usize },
     Refused(Refusal),
@@ -21,7 +21,7 @@ pub enum Line {
 // 9 to 13, at the first problem met; then with 2 and 4 to 7.
 pub fn read_line(line: &[u8], payload: &mut [u8]) -> Line
     ensures answer { λ r. ⌜ r ≡ readAnswer (now (line .entry)) (length (now (payload .entry))) ⌝ }
-    ensures memory { λ r. ⌜ now (payload .exit) ≡ after (answerOf r) (payloadIn (now (line .entry))) (now (payload .entry)) ⌝ }
+    ensures memory { λ r. ⌜ now (payload .exit) ≡ after (lineNumbers r) (payloadIn (now (line .entry))) (now (payload .entry)) ⌝ }
 {
     match scanning::scan(line) {
         Held::Frame {

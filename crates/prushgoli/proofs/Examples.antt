@@ -2,19 +2,22 @@
 --     packed-right    a length; a refusal with its place; two bounds; an identifier and a length; a line's refusal
 use mathlib.Core.Path.{_≡_, refl}
 use mathlib.Core.List.{[], _∷_}
+use Rattle.refusals.specs.Table.{answerNumbers}
 use Rattle.refusals.specs.declared.Answer.the-variants as answer
 use Rattle.refusals.specs.declared.Refusal.the-variants as refusal
+use Rattle.frame.specs.Answers.{boundsNumbers}
 use Rattle.frame.specs.declared.Bounds.the-variants as bounds
+use Rattle.line.specs.Read.{lineNumbers}
 use Rattle.line.specs.declared.Line.the-variants as line
-use Rattle.prushgoli.specs.Packing.{pack, packedAnswer, packedBounds, packedLine}
+use Rattle.prushgoli.specs.Packing.{pack}
 
 pub packed-right :
-    packedAnswer (answer.Length 2)
-    ∷ packedAnswer (answer.Refused (refusal.Escape 3))
-    ∷ packedBounds (bounds.Between 61 65)
-    ∷ packedBounds (bounds.Refused refusal.Identifier)
-    ∷ packedLine (line.Frame 0x555 1)
-    ∷ packedLine (line.Refused (refusal.Crc 0x27))
+    pack (answerNumbers (answer.Length 2))
+    ∷ pack (answerNumbers (answer.Refused (refusal.Escape 3)))
+    ∷ pack (boundsNumbers (bounds.Between 61 65))
+    ∷ pack (boundsNumbers (bounds.Refused refusal.Identifier))
+    ∷ pack (lineNumbers (line.Frame 0x555 1))
+    ∷ pack (lineNumbers (line.Refused (refusal.Crc 0x27)))
     ∷ []
     ≡ 0x0000000000000002
     ∷ 0x0000000000050003

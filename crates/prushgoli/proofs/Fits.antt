@@ -1,42 +1,73 @@
--- What each call answers can be packed: refusal's number, and length or place, have 16 bits. Assumes nothing.
+-- What each call answers can be packed. Assumes nothing.
 --     encode-fits, decode-fits, length-fits, make-fits, bounds-fit, read-fits
-use mathlib.Core.Path.{_≡_, sym, subst}
+--     bounds-both    both bounds have 16 bits
+use mathlib.Core.Path.{_≡_, ap}
 use mathlib.Core.List.{List}
-use Prim.Native.Nat.{ℕ, _^_, _≤_}
+use Prim.Native.Nat.{ℕ, _^_, _<_}
 use native.Mathlib.Omega.{arith}
-use Rattle.bits.specs.Below.{Below}
-use Rattle.bits.proofs.Below.{below-more}
-use Rattle.refusals.specs.Table.{answerNumbers}
+use lib.Dec.{lit<}
+use Rattle.refusals.specs.Table.{Numbers, answerNumbers}
 use Rattle.refusals.specs.declared.Answer.{Answer}
+use Rattle.refusals.specs.declared.Answer.the-variants as answer
 use Rattle.field.specs.Encode.{encodeAnswer}
 use Rattle.field.proofs.Small.{encode-small}
 use Rattle.decoding.specs.Decode.{decodeAnswer}
 use Rattle.decoding.proofs.Small.{decode-small}
 use Rattle.frame.specs.Answers.{makeAnswer, lengthAnswer, boundsAnswer, boundsNumbers}
 use Rattle.frame.specs.declared.Bounds.{Bounds}
+use Rattle.frame.specs.declared.Bounds.the-variants as bounds
 use Rattle.frame.proofs.Small.{length-small, make-small, bounds-small}
-use Rattle.line.specs.Read.{readAnswer, answerOf}
+use Rattle.line.specs.Read.{readAnswer, lineNumbers}
 use Rattle.line.specs.declared.Line.{Line}
+use Rattle.line.specs.declared.Line.the-variants as line
 use Rattle.line.proofs.Small.{read-small}
+use Rattle.prushgoli.proofs.Packed.{Fits, refused-fits}
 
-fits : {A : Type 0} (numbers : A → List ℕ) (k : ℕ) (a b : A) → k ≤ 2 ^ 16 → Below k (numbers b) → a ≡ b → Below (2 ^ 16) (numbers a)
-fits {A} numbers k a b h small e = subst (λ (x : A). Below (2 ^ 16) (numbers x)) (sym e) (below-more k (2 ^ 16) (numbers b) h small)
+-- of each answer the refusal's number is small
+given-fits : (a : Answer) → answerNumbers a .low < 2 ^ 16 → Fits (answerNumbers a)
+given-fits (answer.Length n) h = record { low = h; refusal = lit< tt; high = lit< tt }
+given-fits (answer.Refused r) h = refused-fits r h
 
-pub encode-fits : (payload : List ℕ) (room : ℕ) (a : Answer) → a ≡ encodeAnswer payload room → Below (2 ^ 16) (answerNumbers a)
-encode-fits payload room a = fits answerNumbers 9 a (encodeAnswer payload room) (omega arith) (encode-small payload room)
+bounds-given : (b : Bounds) → boundsNumbers b .low < 2 ^ 16 → boundsNumbers b .high < 2 ^ 32 → Fits (boundsNumbers b)
+bounds-given (bounds.Between least most) h g = record { low = h; refusal = lit< tt; high = g }
+bounds-given (bounds.Refused r) h g = refused-fits r h
 
-pub decode-fits : (field : List ℕ) (room : ℕ) (a : Answer) → a ≡ decodeAnswer field room → Below (2 ^ 16) (answerNumbers a)
-decode-fits field room a = fits answerNumbers 8 a (decodeAnswer field room) (omega arith) (decode-small field room)
+line-given : (l : Line) → lineNumbers l .low < 2 ^ 16 → lineNumbers l .high < 2 ^ 32 → Fits (lineNumbers l)
+line-given (line.Frame identifier n) h g = record { low = h; refusal = lit< tt; high = g }
+line-given (line.Refused r) h g = refused-fits r h
+
+-- the numbers of an answer that is said to be another's
+low : {A : Type 0} (numbers : A → Numbers) {a b : A} → a ≡ b → numbers a .low ≡ numbers b .low
+low numbers = ap (λ x. numbers x .low)
+
+high : {A : Type 0} (numbers : A → Numbers) {a b : A} → a ≡ b → numbers a .high ≡ numbers b .high
+high numbers = ap (λ x. numbers x .high)
+
+pub encode-fits : (payload : List ℕ) (room : ℕ) (a : Answer) → a ≡ encodeAnswer payload room → Fits (answerNumbers a)
+encode-fits payload room a e = given-fits a (omega (arith, low answerNumbers e, encode-small payload room))
+
+pub decode-fits : (field : List ℕ) (room : ℕ) (a : Answer) → a ≡ decodeAnswer field room → Fits (answerNumbers a)
+decode-fits field room a e = given-fits a (omega (arith, low answerNumbers e, decode-small field room))
 
 module _ (identifier : ℕ) (payload : List ℕ) where
-  pub length-fits : (a : Answer) → a ≡ lengthAnswer identifier payload → Below (2 ^ 16) (answerNumbers a)
-  length-fits a = fits answerNumbers 133 a (lengthAnswer identifier payload) (omega arith) (length-small identifier payload)
+  pub length-fits : (a : Answer) → a ≡ lengthAnswer identifier payload → Fits (answerNumbers a)
+  length-fits a e = given-fits a (omega (arith, low answerNumbers e, length-small identifier payload))
 
-  pub make-fits : (room : ℕ) (a : Answer) → a ≡ makeAnswer identifier payload room → Below (2 ^ 16) (answerNumbers a)
-  make-fits room a = fits answerNumbers 133 a (makeAnswer identifier payload room) (omega arith) (make-small identifier payload room)
+  pub make-fits : (room : ℕ) (a : Answer) → a ≡ makeAnswer identifier payload room → Fits (answerNumbers a)
+  make-fits room a e = given-fits a (omega (arith, low answerNumbers e, make-small identifier payload room))
 
-pub bounds-fit : (identifier size : ℕ) (b : Bounds) → b ≡ boundsAnswer identifier size → Below (2 ^ 16) (boundsNumbers b)
-bounds-fit identifier size b = fits boundsNumbers 117 b (boundsAnswer identifier size) (omega arith) (bounds-small identifier size)
+pub bounds-both : (identifier size : ℕ) (b : Bounds) → b ≡ boundsAnswer identifier size
+    → (boundsNumbers b .low < 2 ^ 16) × (boundsNumbers b .high < 2 ^ 16)
+bounds-both identifier size b e =
+    let few = bounds-small identifier size in
+    (omega (arith, low boundsNumbers e, few .0), omega (arith, high boundsNumbers e, few .1))
 
-pub read-fits : (line : List ℕ) (room : ℕ) (l : Line) → l ≡ readAnswer line room → Below (2 ^ 16) (answerNumbers (answerOf l))
-read-fits line room l = fits (λ (x : Line). answerNumbers (answerOf x)) 217 l (readAnswer line room) (omega arith) (read-small line room)
+pub bounds-fit : (identifier size : ℕ) (b : Bounds) → b ≡ boundsAnswer identifier size → Fits (boundsNumbers b)
+bounds-fit identifier size b e =
+    let both = bounds-both identifier size b e in
+    bounds-given b (both .0) (omega (arith, both .1))
+
+pub read-fits : (line : List ℕ) (room : ℕ) (l : Line) → l ≡ readAnswer line room → Fits (lineNumbers l)
+read-fits line room l e =
+    let few = read-small line room in
+    line-given l (omega (arith, low lineNumbers e, few .0)) (omega (arith, high lineNumbers e, few .1))

@@ -1,21 +1,22 @@
 // The library as C calls it: each call under its C name, its answer packed into one number. A slice passes as pointer and length.
 ghost use mathlib.Core.Path.{_≡_};
 ghost use lib.ListN.{length};
+ghost use Rattle.refusals.specs.Table.{answerNumbers};
 ghost use Rattle.refusals.specs.After.{after};
 ghost use Rattle.field.specs.Field.{fieldOf};
 ghost use Rattle.field.specs.Encode.{encodeAnswer};
 ghost use Rattle.decoding.specs.Decode.{decodeAnswer, payloadOf};
-ghost use Rattle.frame.specs.Answers.{payloadLine, makeAnswer, lengthAnswer, boundsAnswer};
-ghost use Rattle.line.specs.Read.{readAnswer, payloadIn, answerOf};
-ghost use Rattle.prushgoli.specs.Packing.{packedAnswer, packedBounds, packedLine};
+ghost use Rattle.frame.specs.Answers.{payloadLine, makeAnswer, lengthAnswer, boundsAnswer, boundsNumbers};
+ghost use Rattle.line.specs.Read.{readAnswer, payloadIn, lineNumbers};
+ghost use Rattle.prushgoli.specs.Packing.{pack};
 
 mod packing;
 
 // Codes a payload into a field.
 #[no_mangle]
 pub extern "C" fn prushgoli_encode(payload: &[u8], field: &mut [u8]) -> u64
-    ensures answer { λ r. ⌜ r ≡ packedAnswer (encodeAnswer (now (payload .entry)) (length (now (field .entry)))) ⌝ }
-    ensures memory { λ _. ⌜ now (field .exit) ≡ after (encodeAnswer (now (payload .entry)) (length (now (field .entry)))) (fieldOf (now (payload .entry))) (now (field .entry)) ⌝ }
+    ensures answer { λ r. ⌜ r ≡ pack (answerNumbers (encodeAnswer (now (payload .entry)) (length (now (field .entry))))) ⌝ }
+    ensures memory { λ _. ⌜ now (field .exit) ≡ after (answerNumbers (encodeAnswer (now (payload .entry)) (length (now (field .entry))))) (fieldOf (now (payload .entry))) (now (field .entry)) ⌝ }
 {
     packing::answer(field::encode(payload, field))
 }
@@ -23,8 +24,8 @@ pub extern "C" fn prushgoli_encode(payload: &[u8], field: &mut [u8]) -> u64
 // Decodes a field into its payload.
 #[no_mangle]
 pub extern "C" fn prushgoli_decode(field: &[u8], payload: &mut [u8]) -> u64
-    ensures answer { λ r. ⌜ r ≡ packedAnswer (decodeAnswer (now (field .entry)) (length (now (payload .entry)))) ⌝ }
-    ensures memory { λ _. ⌜ now (payload .exit) ≡ after (decodeAnswer (now (field .entry)) (length (now (payload .entry)))) (payloadOf (now (field .entry))) (now (payload .entry)) ⌝ }
+    ensures answer { λ r. ⌜ r ≡ pack (answerNumbers (decodeAnswer (now (field .entry)) (length (now (payload .entry))))) ⌝ }
+    ensures memory { λ _. ⌜ now (payload .exit) ≡ after (answerNumbers (decodeAnswer (now (field .entry)) (length (now (payload .entry))))) (payloadOf (now (field .entry))) (now (payload .entry)) ⌝ }
 {
     packing::answer(decoding::decode(field, payload))
 }
@@ -32,7 +33,7 @@ pub extern "C" fn prushgoli_decode(field: &[u8], payload: &mut [u8]) -> u64
 // The length of the frame of an identifier and a payload.
 #[no_mangle]
 pub extern "C" fn prushgoli_frame_length(identifier: u32, payload: &[u8]) -> u64
-    ensures { λ r. ⌜ r ≡ packedAnswer (lengthAnswer identifier (now (payload .entry))) ⌝ }
+    ensures { λ r. ⌜ r ≡ pack (answerNumbers (lengthAnswer identifier (now (payload .entry)))) ⌝ }
 {
     packing::answer(frame::frame_length(identifier, payload))
 }
@@ -40,7 +41,7 @@ pub extern "C" fn prushgoli_frame_length(identifier: u32, payload: &[u8]) -> u64
 // The bounds of the length of every frame of an identifier and a size.
 #[no_mangle]
 pub extern "C" fn prushgoli_frame_bounds(identifier: u32, size: usize) -> u64
-    ensures { λ r. ⌜ r ≡ packedBounds (boundsAnswer identifier size) ⌝ }
+    ensures { λ r. ⌜ r ≡ pack (boundsNumbers (boundsAnswer identifier size)) ⌝ }
 {
     packing::bounds(frame::frame_bounds(identifier, size))
 }
@@ -48,8 +49,8 @@ pub extern "C" fn prushgoli_frame_bounds(identifier: u32, size: usize) -> u64
 // Makes the line of the frame of an identifier and a payload.
 #[no_mangle]
 pub extern "C" fn prushgoli_make_frame(identifier: u32, payload: &[u8], line: &mut [u8]) -> u64
-    ensures answer { λ r. ⌜ r ≡ packedAnswer (makeAnswer identifier (now (payload .entry)) (length (now (line .entry)))) ⌝ }
-    ensures memory { λ _. ⌜ now (line .exit) ≡ after (makeAnswer identifier (now (payload .entry)) (length (now (line .entry)))) (payloadLine identifier (now (payload .entry))) (now (line .entry)) ⌝ }
+    ensures answer { λ r. ⌜ r ≡ pack (answerNumbers (makeAnswer identifier (now (payload .entry)) (length (now (line .entry))))) ⌝ }
+    ensures memory { λ _. ⌜ now (line .exit) ≡ after (answerNumbers (makeAnswer identifier (now (payload .entry)) (length (now (line .entry))))) (payloadLine identifier (now (payload .entry))) (now (line .entry)) ⌝ }
 {
     packing::answer(frame::make_frame(identifier, payload, line))
 }
@@ -57,8 +58,8 @@ pub extern "C" fn prushgoli_make_frame(identifier: u32, payload: &[u8], line: &m
 // Reads a line: the identifier and the payload of its frame.
 #[no_mangle]
 pub extern "C" fn prushgoli_read_line(line: &[u8], payload: &mut [u8]) -> u64
-    ensures answer { λ r. ⌜ r ≡ packedLine (readAnswer (now (line .entry)) (length (now (payload .entry)))) ⌝ }
-    ensures memory { λ _. ⌜ now (payload .exit) ≡ after (answerOf (readAnswer (now (line .entry)) (length (now (payload .entry))))) (payloadIn (now (line .entry))) (now (payload .entry)) ⌝ }
+    ensures answer { λ r. ⌜ r ≡ pack (lineNumbers (readAnswer (now (line .entry)) (length (now (payload .entry))))) ⌝ }
+    ensures memory { λ _. ⌜ now (payload .exit) ≡ after (lineNumbers (readAnswer (now (line .entry)) (length (now (payload .entry))))) (payloadIn (now (line .entry))) (now (payload .entry)) ⌝ }
 {
     packing::line(line::read_line(line, payload))
 }

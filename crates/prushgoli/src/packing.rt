@@ -1,19 +1,18 @@
 // One number for each answer: bits 0 to 15 a length or a place, bits 16 to 31 the refusal's number, from bit 32 on what else there is.
 ghost use mathlib.Core.Path.{_≡_};
-ghost use Prim.Native.Nat.{_<_, _^_};
-ghost use Rattle.bits.specs.Below.{Below};
-ghost use Rattle.refusals.specs.Table.{placeOf, answerNumbers};
+ghost use Prim.Native.Nat.{_+_, _*_, _^_, _<_};
+ghost use Rattle.refusals.specs.Table.{inTable, placeOf, answerNumbers};
 ghost use Rattle.frame.specs.Answers.{boundsNumbers};
-ghost use Rattle.line.specs.Read.{answerOf};
-ghost use Rattle.prushgoli.specs.Packing.{pack, packedRefusal, packedAnswer, packedBounds, packedLine};
+ghost use Rattle.line.specs.Read.{lineNumbers};
+ghost use Rattle.prushgoli.specs.Packing.{pack};
 use frame::Bounds;
 use line::Line;
 use refusals::Answer;
 use refusals::Refusal;
 
 pub(crate) fn answer(answer: Answer) -> u64
-    requires { ⌜ Below (2 ^ 16) (answerNumbers answer) ⌝ }
-    ensures { λ r. ⌜ r ≡ packedAnswer answer ⌝ }
+    requires { ⌜ answerNumbers answer .low < 2 ^ 16 ⌝ }
+    ensures { λ r. ⌜ r ≡ pack (answerNumbers answer) ⌝ }
 {
     match answer {
         Answer::Length(length) => pack(length, 0, 0),
@@ -22,8 +21,8 @@ pub(crate) fn answer(answer: Answer) -> u64
 }
 
 pub(crate) fn bounds(bounds: Bounds) -> u64
-    requires { ⌜ Below (2 ^ 16) (boundsNumbers bounds) ⌝ }
-    ensures { λ r. ⌜ r ≡ packedBounds bounds ⌝ }
+    requires { ⌜ (boundsNumbers bounds .low < 2 ^ 16) × (boundsNumbers bounds .high < 2 ^ 16) ⌝ }
+    ensures { λ r. ⌜ r ≡ pack (boundsNumbers bounds) ⌝ }
 {
     match bounds {
         Bounds::Between(least, most) => pack(least, 0, most as u32),
@@ -32,8 +31,8 @@ pub(crate) fn bounds(bounds: Bounds) -> u64
 }
 
 pub(crate) fn line(line: Line) -> u64
-    requires { ⌜ Below (2 ^ 16) (answerNumbers (answerOf line)) ⌝ }
-    ensures { λ r. ⌜ r ≡ packedLine line ⌝ }
+    requires { ⌜ lineNumbers line .low < 2 ^ 16 ⌝ }
+    ensures { λ r. ⌜ r ≡ pack (lineNumbers line) ⌝ }
 {
     match line {
         Line::Frame { identifier, length } => pack(length, 0, identifier),
@@ -43,14 +42,14 @@ pub(crate) fn line(line: Line) -> u64
 
 fn refused(refusal: Refusal) -> u64
     requires { ⌜ placeOf refusal < 2 ^ 16 ⌝ }
-    ensures { λ r. ⌜ r ≡ packedRefusal refusal ⌝ }
+    ensures { λ r. ⌜ r ≡ pack (inTable refusal) ⌝ }
 {
     pack(refusal.place(), refusal.number(), 0)
 }
 
 fn pack(low: usize, refusal: u8, high: u32) -> u64
     requires { ⌜ low < 2 ^ 16 ⌝ }
-    ensures { λ r. ⌜ r ≡ pack low refusal high ⌝ }
+    ensures { λ r. ⌜ r ≡ low + refusal * 2 ^ 16 + high * 2 ^ 32 ⌝ }
 {
     low as u64 + ((refusal as u64) << 16) + ((high as u64) << 32)
 }

@@ -2,7 +2,7 @@
 ghost use mathlib.Core.Path.{_≡_};
 ghost use Rattle.records.specs.Records.{kindOf};
 
-// What a kind byte says of the body: what it is, and how many bytes it has.
+// What a kind byte says of the body: what it is, and how many bytes it has. [14.2]
 pub(crate) enum Kind {
     Payload(usize),
     Field(usize),

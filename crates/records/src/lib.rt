@@ -9,7 +9,7 @@ use kinds::Kind;
 use refusals::Refusal;
 
 // What stands at an offset of a trace: a record, with the length of its body, which follows the kind byte; the trace's end; or a
-// refusal, which ends the reading.
+// refusal, which ends the reading. [14.1, 14.4, 14.6]
 pub enum Record {
     Payload(usize),
     Field(usize),

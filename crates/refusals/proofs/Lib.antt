@@ -1,3 +1,4 @@
 pub mod Table
 pub mod After
 pub mod Answers
+pub mod Given

@@ -1,46 +1,50 @@
--- Document 01's table of refusals: the number and the place of each; an answer in these numbers. Assumes nothing.
+-- Document 01's table of refusals, and an answer in the document's numbers. Assumes nothing.
 use Prim.Native.Nat.{ℕ}
-use mathlib.Core.List.{List, [], _∷_}
 use Rattle.refusals.specs.declared.Answer.{Answer}
 use Rattle.refusals.specs.declared.Answer.the-variants.{Length, Refused}
 use Rattle.refusals.specs.declared.Refusal.{Refusal}
 use Rattle.refusals.specs.declared.Refusal.the-variants.{PayloadTooLong, RoomShort, FieldLength, BreakBit, Escape, NoWord, Padding, Identifier, LineByte, StuffBit, LineLength, Crc, FixedBit, Record}
 
--- the number, 1 to 14
+-- an answer in the document's numbers: that of the refusal, 0 for none; a length, or the refusal's place; what else is answered, or 0 [7.3]
+pub record Numbers : Type 0 where
+  pub refusal : ℕ
+  pub low : ℕ
+  pub high : ℕ
+
+-- no refusal: a length, and what else is answered [7.3]
+abbrev pub given : ℕ → ℕ → Numbers
+given n more = record { refusal = 0; low = n; high = more }
+
+-- a refusal: its number, at its place [7.3]
+infix 20 _at_
+abbrev pub _at_ : ℕ → ℕ → Numbers
+number at place = record { refusal = number; low = place; high = 0 }
+
+-- the table: a place that varies is the one that the refusal holds [8.1, 8.2]
+abbrev pub inTable : Refusal → Numbers
+inTable PayloadTooLong = 1 at 0
+inTable RoomShort = 2 at 0
+inTable (FieldLength place) = 3 at place
+inTable BreakBit = 4 at 0
+inTable (Escape word) = 5 at word
+inTable (NoWord word) = 6 at word
+inTable Padding = 7 at 0
+inTable Identifier = 8 at 0
+inTable (LineByte bit) = 9 at bit
+inTable (StuffBit bit) = 10 at bit
+inTable (LineLength bit) = 11 at bit
+inTable (Crc bit) = 12 at bit
+inTable (FixedBit bit) = 13 at bit
+inTable (Record offset) = 14 at offset
+
+-- its two columns [8.1, 8.2]
 abbrev pub numberOf : Refusal → ℕ
-numberOf PayloadTooLong = 1
-numberOf RoomShort = 2
-numberOf (FieldLength place) = 3
-numberOf BreakBit = 4
-numberOf (Escape word) = 5
-numberOf (NoWord word) = 6
-numberOf Padding = 7
-numberOf Identifier = 8
-numberOf (LineByte bit) = 9
-numberOf (StuffBit bit) = 10
-numberOf (LineLength bit) = 11
-numberOf (Crc bit) = 12
-numberOf (FixedBit bit) = 13
-numberOf (Record offset) = 14
+numberOf r = inTable r .refusal
 
--- the place: 0, or where it varies the one that the refusal holds; that of a field's length is 0 too, but in a line the fourth DLC bit
 abbrev pub placeOf : Refusal → ℕ
-placeOf PayloadTooLong = 0
-placeOf RoomShort = 0
-placeOf (FieldLength place) = place
-placeOf BreakBit = 0
-placeOf (Escape word) = word
-placeOf (NoWord word) = word
-placeOf Padding = 0
-placeOf Identifier = 0
-placeOf (LineByte bit) = bit
-placeOf (StuffBit bit) = bit
-placeOf (LineLength bit) = bit
-placeOf (Crc bit) = bit
-placeOf (FixedBit bit) = bit
-placeOf (Record offset) = offset
+placeOf r = inTable r .low
 
--- an answer in the document's numbers: 0, which means none, and the length; or the refusal's number and its place
-abbrev pub answerNumbers : Answer → List ℕ
-answerNumbers (Length n) = 0 ∷ n ∷ []
-answerNumbers (Refused refusal) = numberOf refusal ∷ placeOf refusal ∷ []
+-- a length, or a refusal [7.3]
+abbrev pub answerNumbers : Answer → Numbers
+answerNumbers (Length n) = given n 0
+answerNumbers (Refused r) = inTable r

@@ -3,7 +3,7 @@ ghost use mathlib.Core.Path.{_≡_};
 ghost use Rattle.refusals.specs.Table.{numberOf, placeOf};
 
 // Why a call is refused, in the order of document 01's table. A variant holds the place where that varies: a bit of the line, the
-// number of a word, an offset in a trace.
+// number of a word, an offset in a trace. [8.1, 8.2]
 pub enum Refusal {
     PayloadTooLong,
     RoomShort,
@@ -21,7 +21,7 @@ pub enum Refusal {
     Record(usize),
 }
 
-// A length, or a refusal. The buffer that a result goes to stays beside it.
+// A length, or a refusal. The buffer that a result goes to stays beside it. [7.3]
 pub enum Answer {
     Length(usize),
     Refused(Refusal),

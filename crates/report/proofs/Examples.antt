@@ -17,7 +17,8 @@ use Rattle.decoding.specs.Parts.{breakPart, wordsPart, paddingPart}
 use Rattle.decoding.specs.Decode.{decodeAnswer, payloadOf}
 use Rattle.records.specs.Records.{kindOf, recordAt, bodyAt}
 use Rattle.report.specs.Text.{decimalIn, decimal, hexDigit, hex, bytesText}
-use Rattle.report.specs.Report.{lineText, outcomeText, encodedText, decodedText, lineAt, reportedAt, linesFrom, report}
+use Rattle.report.specs.Report.{lineText, outcomeText, encodedText, decodedText, lineAt, reportedAt}
+use Rattle.report.specs.Whole.{linesFrom, report}
 
 pub example-right : report (0x11 ∷ 0xF0 ∷ 0x22 ∷ 0x90 ∷ 0x95 ∷ 0x22 ∷ 0xEA ∷ 0x55 ∷ 0x10 ∷ 0x30 ∷ []) ≡
     0x31 ∷ 0x20 ∷ 0x45 ∷ 0x20 ∷ 0x30 ∷ 0x20 ∷ 0x30 ∷ 0x20 ∷ 0x45 ∷ 0x41 ∷ 0x35 ∷ 0x35 ∷ 0x0A

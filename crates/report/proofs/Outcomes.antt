@@ -5,11 +5,10 @@
 --     whole-text      so that the line is that of the result
 use mathlib.Core.Path.{_≡_, refl, sym, ap, _∙_, subst}
 use mathlib.Core.List.{List}
-use Prim.Native.Nat.{ℕ, _≤_}
+use Prim.Native.Nat.{ℕ, _≤_, _<_}
 use native.Mathlib.Omega.{arith}
 use lib.ListN.{length, drop, length-append}
 use lib.Seq.{take-at}
-use Rattle.bits.specs.Below.{Below}
 use Rattle.refusals.specs.After.{after}
 use Rattle.refusals.specs.Table.{answerNumbers}
 use Rattle.refusals.specs.declared.Answer.{Answer}
@@ -28,9 +27,9 @@ abbrev pub Whole : Answer → List ℕ → Type 0
 Whole (Length n) result = (n ≡ length result) × (n ≤ 8)
 Whole (Refused refusal) result = Unit {0}
 
-whole : (a : Answer) (result : List ℕ) (k : ℕ) → k ≤ 9 → Below k (answerNumbers a) → ((n : ℕ) → a ≡ Length n → n ≡ length result)
+whole : (a : Answer) (result : List ℕ) (k : ℕ) → k ≤ 9 → answerNumbers a .low < k → ((n : ℕ) → a ≡ Length n → n ≡ length result)
     → Whole a result
-whole (Length n) result k h small is = (is n refl, omega (arith, h, small .1 .0))
+whole (Length n) result k h small is = (is n refl, omega (arith, h, small))
 whole (Refused refusal) result k h small is = tt
 
 pub encoded-whole : (payload : List ℕ) → Whole (encodeAnswer payload 8) (fieldOf payload)
@@ -41,18 +40,18 @@ pub decoded-whole : (field : List ℕ) → Whole (decodeAnswer field 8) (payload
 decoded-whole field =
     whole (decodeAnswer field 8) (payloadOf field) 8 (omega arith) (decode-small field 8) (decode-result field 8)
 
-held : (a : Answer) (result old : List ℕ) → Whole a result → Holds a (after a result old)
+held : (a : Answer) (result old : List ℕ) → Whole a result → Holds a (after (answerNumbers a) result old)
 held (Length n) result old w = (w .1, omega (arith, w .0, length-append result (drop (length result) old)))
 held (Refused refusal) result old w = tt
 
 same-text : (number letter : ℕ) (a : Answer) (result old : List ℕ) → Whole a result
-    → outcomeText number letter a (heldIn a (after a result old)) ≡ outcomeText number letter a result
+    → outcomeText number letter a (heldIn a (after (answerNumbers a) result old)) ≡ outcomeText number letter a result
 unfolding outcomeText
 same-text number letter (Length n) result old w =
     ap (outcomeText number letter (Length n)) (take-at result (drop (length result) old) n (sym (w .0)))
 same-text number letter (Refused refusal) result old w = refl
 
-module _ (a expected : Answer) (result old bytes : List ℕ) (e : a ≡ expected) (left : bytes ≡ after a result old) (w : Whole expected result) where
+module _ (a expected : Answer) (result old bytes : List ℕ) (e : a ≡ expected) (left : bytes ≡ after (answerNumbers a) result old) (w : Whole expected result) where
   whole-given : Whole a result
   whole-given = subst (λ (x : Answer). Whole x result) (sym e) w
 

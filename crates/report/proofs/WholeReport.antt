@@ -6,7 +6,8 @@ use Prim.Native.Nat.{ℕ, zero, suc, _+_, _≤_}
 use native.Mathlib.Omega.{arith}
 use lib.ListN.{length}
 use Rattle.records.proofs.Records.{record-end}
-use Rattle.report.specs.Report.{lineAt, reportedAt, onward, linesFrom, report}
+use Rattle.report.specs.Report.{lineAt, reportedAt}
+use Rattle.report.specs.Whole.{onward, linesFrom, report}
 use Rattle.report.specs.declared.Reported.{Reported}
 use Rattle.report.specs.declared.Reported.the-variants.{Line, End, Refused}
 use Rattle.report.proofs.Reports.{reported-found, reported-goes}

@@ -2,7 +2,7 @@
 ghost use mathlib.Core.Path.{_≡_};
 ghost use lib.ListN.{length};
 ghost use Rattle.refusals.specs.After.{after};
-ghost use Rattle.report.specs.Report.{reportedAt, lineAt, answerOf};
+ghost use Rattle.report.specs.Report.{reportedAt, lineAt, reportedNumbers};
 
 mod text;
 mod writing;
@@ -15,7 +15,7 @@ use refusals::Refusal;
 pub const LINE_ROOM: usize = 96;
 
 // What the report says at an offset: a line of this length, and where the next record stands, which behind refusal 14 is the trace's
-// end; nothing, where the trace ends; or a refusal.
+// end; nothing, where the trace ends; or a refusal. [15.9]
 pub enum Reported {
     Line { length: usize, next: usize },
     End,
@@ -26,7 +26,7 @@ pub enum Reported {
 // for LINE_ROOM bytes is asked for whatever the line.
 pub fn line_at(trace: &[u8], offset: usize, number: usize, text: &mut [u8]) -> Reported
     ensures answer { λ r. ⌜ r ≡ reportedAt (now (trace .entry)) offset number (length (now (text .entry))) ⌝ }
-    ensures memory { λ r. ⌜ now (text .exit) ≡ after (answerOf r) (lineAt (now (trace .entry)) offset number) (now (text .entry)) ⌝ }
+    ensures memory { λ r. ⌜ now (text .exit) ≡ after (reportedNumbers r) (lineAt (now (trace .entry)) offset number) (now (text .entry)) ⌝ }
 {
     if text.len() < LINE_ROOM {
         return Reported::Refused(Refusal::RoomShort);

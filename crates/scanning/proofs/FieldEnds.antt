@@ -23,10 +23,9 @@ use Rattle.bits.proofs.Everywhere.{everywhere, everywhere-at}
 use Rattle.refusals.specs.declared.Refusal.the-variants.{FieldLength, LineLength}
 use Rattle.crc.specs.Crc.{crc}
 use Rattle.crc.specs.Dlc.{dataBytes}
-use Rattle.scanning.specs.Fields.{fixed, free}
-use Rattle.scanning.specs.Scan.{dlcIn, complete, crcStart, crcRight, Verdict, right, shown, stopped, onward, scan, scanned}
-use Rattle.scanning.specs.Held.{identifierIn, dataIn}
-use Rattle.scanning.specs.Steps.{rowsOf, least, headerRead, fieldRead, crcRead, partEnd, fieldEnd, Holds, Reads}
+use Rattle.scanning.specs.Scan.{identifierIn, dlcIn, complete, crcStart, crcRight, Verdict, right, shown, stopped, onward, scan, scanned}
+use Rattle.scanning.specs.Held.{dataIn}
+use Rattle.scanning.specs.Steps.{fixedRow, freeRow, rowsOf, least, headerRead, fieldRead, crcRead, partEnd, fieldEnd, Holds, Reads}
 use Rattle.scanning.specs.declared.fields.Field.{Field}
 use Rattle.scanning.specs.declared.seen.Seen.{Seen}
 use Rattle.scanning.specs.declared.seen.Step.{Step}
@@ -40,7 +39,7 @@ use Rattle.scanning.proofs.Keeping.{bytes, dataBits, rest, pending, Bet
 -- only the data field hangs on the DLC
 other-field : (f n : ℕ) → (f ≡ 4 → ⊥) → rowAt f (rowsOf n) ≡ rowAt f (rowsOf 0)
 unfolding rowsOf
-other-field f n h = getD-set-other (rowsOf 0) 4 f (free (8 * n)) (fixed 0 0) h
+other-field f n h = getD-set-other (rowsOf 0) 4 f (freeRow (8 * n)) (fixedRow 0 0) h
 
 width-is : (f n : ℕ) → rowAt f (rowsOf 0) .bits + dataBits f n ≡ rowAt f (rowsOf n) .bits
 unfolding rowsOf

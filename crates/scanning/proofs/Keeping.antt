@@ -7,7 +7,7 @@
 --     number-small, end-small    the number of a part and the place of the row's end leave room for one more bit
 --     missing            the line ends in the row
 use mathlib.Core.Path.{_≡_, refl, sym, ap, _∙_}
-use mathlib.Core.Bool.{Bool, true, false, cond}
+use mathlib.Core.Bool.{Bool, true, false, cond, not}
 use mathlib.Core.List.{List, [], _∷_, _++_}
 use mathlib.Core.Logic.{_⊎_, inl, inr}
 use Prim.Native.Nat.{ℕ, zero, suc, _+_, _-_, _*_, _%_, _^_, _≤_, _<_}
@@ -22,7 +22,7 @@ use borrow.Author.Tests.{lt-ltb, le-ltb, ne-eqb, ltb-true, ltb-false, leb-true, 
 use Rattle.bits.specs.declared.Run.{Run}
 use Rattle.bits.specs.Stuffing.{counted}
 use Rattle.refusals.specs.declared.Refusal.the-variants.{LineByte, StuffBit, LineLength, FixedBit}
-use Rattle.scanning.specs.Fields.{fieldsOf, form}
+use Rattle.scanning.specs.Form.{form, fits}
 use Rattle.scanning.specs.Scan.{dlcIn, complete, crcStart, stuffDue, mustBe, Verdict, right, shown, verdict, runWith, frameWith, Scanned, stopped, onward, scan, scanned}
 use Rattle.scanning.specs.Steps.{rowsOf, least, bitAt, behindStuffBit, oneOn, behindBit, behindEnding, dueIn, stuffBit, passed, judgedBit, fieldBit, endingBit, andThen, lineBit}
 use Rattle.scanning.specs.declared.seen.Seen.{Seen}
@@ -113,7 +113,7 @@ counted-some run b = go (eqb b (run .bit))
 
 -- start of frame must be 0
 must-first : (frame : List ℕ) → length frame ≡ 0 → mustBe frame ≡ 0
-unfolding mustBe fieldsOf form
+unfolding mustBe form
 must-first frame e = rw e refl
 
 -- in a row, behind its first bit and before its last, nothing is shown
@@ -326,25 +326,21 @@ module _ (line : List ℕ) (f : ℕ) (seen : Seen) (run : Run) (left : ℕ) (fra
                 sym (shown-inside f (bytes seen) more (seen .place) (omega (arith, w .from, longer frame b)) (omega (arith, w .at-is, longer frame b))
                 (dlc-known f (seen .header) (seen .field) number more registers))
 
-        told-on : (mustBe frame ≡ 1 - b → ⊥) → f ≤ 5 → Tells (seen .raw * 2 % 2 ^ 64 + b) (runWith run b)
+        told-on : fits (mustBe frame) b ≡ true → f ≤ 5 → Tells (seen .raw * 2 % 2 ^ 64 + b) (runWith run b)
         told-on n g =
             told-more (seen .raw) b run (omega arith)
             (λ e. let zero-is = must-first frame (w .fresh e) in zero-bit zero-is)
             (λ e. not-five e) (w .told g)
           where
             zero-bit : mustBe frame ≡ 0 → b ≡ 0
-            zero-bit e = go (eqb b 0) refl
-              where
-                go : (t : Bool) → eqb b 0 ≡ t → b ≡ 0
-                go true d = eqb-true b 0 d
-                go false d = let other = eqb-false b 0 d in absurd (n (e ∙ omega arith))
+            zero-bit e = sym (eqb-true 0 b (rw e at n))
 
             not-five : run .count ≡ 5 → ⊥
             not-five =
                 eqb-false _ _ (rw (le-ltb 5 f g) at (sym (due-is f (bytes seen) frame known (w .from) to run) ∙ due))
 
         -- whatever raw bits and number are kept of it
-        within-on : (raw number : ℕ) → (mustBe frame ≡ 1 - b → ⊥) → Registers f (seen .header) (seen .field) number more
+        within-on : (raw number : ℕ) → fits (mustBe frame) b ≡ true → Registers f (seen .header) (seen .field) number more
             → (f ≤ 5 → Tells raw (runWith run b)) → Within line f (oneOn raw number seen) (runWith run b) (left - 1) more
         unfolding runWith frameWith more
         within-on raw number n registers told =
@@ -364,23 +360,26 @@ module _ (line : List ℕ) (f : ℕ) (seen : Seen) (run : Run) (left : ℕ) (fra
 
       -- the bit that must stand, or the line is refused; what is kept of it tells the run and the frame's bits
       judged-goes : (must raw number : ℕ) → mustBe frame ≡ must
-          → (b ≤ 1 → (mustBe frame ≡ 1 - b → ⊥) → Registers f (seen .header) (seen .field) number more × (f ≤ 5 → Tells raw (runWith run b)))
+          → (b ≤ 1 → fits (mustBe frame) b ≡ true → Registers f (seen .header) (seen .field) number more × (f ≤ 5 → Tells raw (runWith run b)))
           → Goes line f seen (judgedBit must line seen (oneOn raw number seen))
       unfolding judgedBit b
       judged-goes must raw number m kept = byte (ltb 1 b) refl
         where
-          fixed-goes : b ≤ 1 → (t : Bool) → eqb must (1 - b) ≡ t
-              → Goes line f seen (cond t (Refused (FixedBit (seen .place))) (Next (oneOn raw number seen)))
-          fixed-goes bit true d = went _ (fixed-bit run frame (seen .place) b begun bit due (m ∙ eqb-true _ _ d))
-          fixed-goes bit false d =
-              let n : mustBe frame ≡ 1 - b → ⊥ = λ e. eqb-false _ _ d (sym m ∙ e) in
+          same : fits (mustBe frame) b ≡ fits must b
+          same = ap (λ (k : ℕ). fits k b) m
+
+          fixed-goes : b ≤ 1 → (t : Bool) → fits must b ≡ t
+              → Goes line f seen (cond (not t) (Refused (FixedBit (seen .place))) (Next (oneOn raw number seen)))
+          fixed-goes bit false d = went _ (fixed-bit run frame (seen .place) b begun bit due (same ∙ d))
+          fixed-goes bit true d =
+              let n = same ∙ d in
               (runWith run b, left - 1, more, within-on bit raw number n (kept bit n .0) (kept bit n .1), inside, omega arith)
 
           byte : (t : Bool) → ltb 1 b ≡ t
               → Goes line f seen
-              (cond t (Refused (LineByte (seen .place))) (cond (eqb must (1 - b)) (Refused (FixedBit (seen .place))) (Next (oneOn raw number seen))))
+              (cond t (Refused (LineByte (seen .place))) (cond (not (fits must b)) (Refused (FixedBit (seen .place))) (Next (oneOn raw number seen))))
           byte true d = went _ (byte-above-1 run frame (seen .place) b begun (ltb-true _ _ d))
-          byte false d = fixed-goes (ltb-false _ _ d) (eqb must (1 - b)) refl
+          byte false d = fixed-goes (ltb-false _ _ d) (fits must b) refl
 
       field-goes : (must : ℕ) → mustBe frame ≡ must → f ≤ 5 → Goes line f seen (fieldBit must line seen)
       unfolding b

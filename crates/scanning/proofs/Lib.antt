@@ -1,4 +1,5 @@
 pub mod Verdicts
+pub mod Fitting
 pub mod Partial
 pub mod Positions
 pub mod RawBits

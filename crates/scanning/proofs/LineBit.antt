@@ -13,6 +13,7 @@ use lib.ListN.{length}
 use borrow.Author.Tests.{lt-ltb, le-ltb, eq-eqb, ne-eqb, leb-false, eqb-true, eqb-false}
 use Rattle.refusals.specs.declared.Refusal.{Refusal}
 use Rattle.refusals.specs.declared.Refusal.the-variants.{LineByte, StuffBit, LineLength, FixedBit}
+use Rattle.scanning.proofs.Fitting.{unfit, fit}
 use Rattle.scanning.specs.Steps.{bitAt, behindStuffBit, dueIn, stuffBit, passed, refusedBit, judgedBit, fieldBit, endingBit, andThen, lineBit}
 use Rattle.scanning.specs.declared.seen.Seen.{Seen}
 use Rattle.scanning.specs.declared.seen.Step.{Step}
@@ -29,11 +30,11 @@ module _ (line : List ℕ) (must : ℕ) (seen next : Seen) (may : must ≤ 2) wh
 
   wrong-bit : bit ≤ 1 → must ≡ 1 - bit → Refused (FixedBit (seen .place)) ≡ judgedBit must line seen next
   unfolding judgedBit bit
-  wrong-bit h e = simp (le-ltb 1 bit h, eq-eqb must (1 - bit) e)
+  wrong-bit h e = simp (le-ltb 1 bit h, unfit must bit h e)
 
   right-bit : bit ≤ 1 → (must ≡ 1 - bit → ⊥) → Next next ≡ judgedBit must line seen next
   unfolding judgedBit bit
-  right-bit h n = simp (le-ltb 1 bit h, ne-eqb must (1 - bit) n)
+  right-bit h n = simp (le-ltb 1 bit h, fit must bit may h n)
 
   -- a bit that no row takes, or the other than must stand
   refused : ((must + bit ≡ 1 → ⊥) → 1 < bit) → refusedBit must bit (seen .place) ≡ judgedBit must line seen next

@@ -22,15 +22,15 @@ use lib.Seq.{getD-append-add}
 use borrow.Author.Tests.{le-leb, lt-leb, ne-eqb, ltb-true, ltb-false, eqb-true, eqb-false}
 use Rattle.bits.specs.declared.Run.{Run}
 use Rattle.frame.specs.Line.{stuffedCrcBits}
-use Rattle.scanning.specs.Fields.{fixed, either, fieldsOf, form}
+use Rattle.scanning.specs.Form.{either, form}
 use Rattle.scanning.specs.Scan.{dlcIn, crcStart, complete, stuffDue, mustBe}
-use Rattle.scanning.specs.Steps.{rowsOf}
+use Rattle.scanning.specs.Steps.{fixedRow, rowsOf, formOf}
 use Rattle.scanning.specs.declared.fields.Field.{Field}
 use Rattle.scanning.proofs.Partial.{must-early}
 
 -- row f of a list of fields
 abbrev pub rowAt : ℕ → List Field → Field
-rowAt f l = getD l f (fixed 0 0)
+rowAt f l = getD l f (fixedRow 0 0)
 
 -- how many bits stand before the field at f
 abbrev before : ℕ → List Field → ℕ
@@ -167,22 +167,22 @@ stage f n h = first (ltb f 3) refl
     first false e = second (eqb f 3) refl (ltb-false f 3 e)
 
 -- the bit of a field stands at each of its positions
-form-at : (f : ℕ) (l : List Field) (i : ℕ) → i < rowAt f l .bits → getD (form l) (before f l + i) either ≡ rowAt f l .bit
-unfolding form
+form-at : (f : ℕ) (l : List Field) (i : ℕ) → i < rowAt f l .bits → getD (formOf l) (before f l + i) either ≡ rowAt f l .bit
+unfolding formOf
 form-at zero [] i h = absurd (omega arith)
 form-at zero (x ∷ l) i h =
     let inside : i < length (replicate (x .bits) (x .bit)) = rw (length-replicate (x .bits) (x .bit)) h in
-    rw (zero-add, List·getD-append (replicate (x .bits) (x .bit)) (form l) either i inside)
+    rw (zero-add, List·getD-append (replicate (x .bits) (x .bit)) (formOf l) either i inside)
     (getD-replicate (x .bits) i (x .bit) either h)
 form-at (suc f) [] i h = absurd (omega arith)
 form-at (suc f) (x ∷ l) i h =
     let at : x .bits + before f l + i ≡ length (replicate (x .bits) (x .bit)) + (before f l + i) =
     rw (length-replicate (x .bits) (x .bit)) (omega arith) in
-    rw (at, getD-append-add (replicate (x .bits) (x .bit)) (form l) (before f l + i) either) (form-at f l i h)
+    rw (at, getD-append-add (replicate (x .bits) (x .bit)) (formOf l) (before f l + i) either) (form-at f l i h)
 
--- the rows stand for the fields
-rows-form : (n : ℕ) → form (rowsOf n) ≡ form (fieldsOf n)
-unfolding form rowsOf fieldsOf
+-- the rows stand for the form
+rows-form : (n : ℕ) → formOf (rowsOf n) ≡ form n
+unfolding form formOf rowsOf
 rows-form n = refl
 
 -- where a stuff bit is due, by the run
@@ -206,14 +206,14 @@ module _ (f n : ℕ) (frame : List ℕ) (known : 3 < f → dlcIn frame ≡ n) wh
         p : ℕ
         p = length frame
 
-        same : (p < 19) ⊎ (dlcIn frame ≡ n) → getD (form (fieldsOf (dlcIn frame))) p either ≡ getD (form (fieldsOf n)) p either
+        same : (p < 19) ⊎ (dlcIn frame ≡ n) → getD (form (dlcIn frame)) p either ≡ getD (form n) p either
         same (inl e) = must-early (dlcIn frame) p e ∙ sym (must-early n p e)
-        same (inr e) = ap (λ (k : ℕ). getD (form (fieldsOf k)) p either) e
+        same (inr e) = ap (λ (k : ℕ). getD (form k) p either) e
 
-        at : getD (form (rowsOf n)) p either ≡ rowAt f (rowsOf n) .bit
+        at : getD (formOf (rowsOf n)) p either ≡ rowAt f (rowsOf n) .bit
         at =
             let sum : startOf f n + (p - startOf f n) ≡ p = omega (arith, from) in
-            subst (λ (k : ℕ). getD (form (rowsOf n)) k either ≡ rowAt f (rowsOf n) .bit) sum
+            subst (λ (k : ℕ). getD (formOf (rowsOf n)) k either ≡ rowAt f (rowsOf n) .bit) sum
             (form-at f (rowsOf n) (p - startOf f n) (omega (arith, from, to, end-is f n)))
 
     pub due-is : (run : Run) → stuffDue run frame ≡ dueAt f run

@@ -23,8 +23,9 @@ use Rattle.bits.proofs.Rows.{bits-length, bits-split, bits-join, number-low}
 use Rattle.crc.specs.Crc.{crc}
 use Rattle.crc.specs.Dlc.{dataBytes}
 use Rattle.crc.proofs.Dlc.{data-bytes}
-use Rattle.scanning.specs.Scan.{dlcIn, crcStart, crcRight}
-use Rattle.scanning.specs.Held.{identifierIn, dataIn}
+use Rattle.scanning.specs.Scan.{identifierIn, dlcIn, crcStart, crcRight}
+use Rattle.scanning.specs.Held.{dataIn}
+use Rattle.scanning.proofs.Partial.{dlc-there}
 
 -- a header whose DLC is not refused
 pub record Fine (header : ℕ) : Type 0 where
@@ -96,11 +97,11 @@ crc-length header field n k frame e =
     ∙ omega (arith, length-append (bits (8 * (header % 16)) field) (bits k n), bits-length (8 * (header % 16)) field, bits-length k n)
 
 dlc-in : (header : ℕ) (l : List ℕ) → dlcIn (bits 19 header ++ l) ≡ header % 16
-unfolding dlcIn
 dlc-in header l =
     let parts : bits 19 header ++ l ≡ bits 15 (header / 2 ^ 4) ++ (bits 4 header ++ l) =
     ap (λ (m : List ℕ). m ++ l) (bits-split 15 4 header) ∙ append-assoc (bits 15 (header / 2 ^ 4)) (bits 4 header) l in
-    ap (λ (m : List ℕ). number 0 (take 4 (drop 15 m))) parts
+    dlc-there (bits 19 header ++ l) (omega (arith, start-length header l))
+    ∙ ap (λ (m : List ℕ). number 0 (take 4 (drop 15 m))) parts
     ∙ ap (λ (m : List ℕ). number 0 (take 4 m)) (drop-at (bits 15 (header / 2 ^ 4)) (bits 4 header ++ l) 15 (bits-length 15 (header / 2 ^ 4)))
     ∙ ap (number 0) (take-at (bits 4 header) l 4 (bits-length 4 header))
     ∙ number-low 4 header

@@ -19,6 +19,7 @@ use lib.ListN.{length}
 use borrow.Author.Tests.{lt-ltb, le-ltb, eq-eqb, ne-eqb, ltb-false, eqb-true, eqb-false}
 use Rattle.bits.specs.declared.Run.{Run}
 use Rattle.refusals.specs.declared.Refusal.the-variants.{FieldLength, LineByte, StuffBit, LineLength, Crc, FixedBit}
+use Rattle.scanning.specs.Form.{fits}
 use Rattle.scanning.specs.Scan.{dlcIn, crcStart, complete, stuffDue, mustBe, dlcRefused, crcRight, right, wrong, shown, verdict}
 
 -- the bit b, in the place where the frame's bits so far and the run are these
@@ -41,13 +42,13 @@ module _ (run : Run) (frame : List ℕ) (place b : ℕ) where
       unfolding verdict
       stuff-bit due n = simp (begun, le-ltb 1 b bit, due, ne-eqb b (run .bit) n)
 
-      pub fixed-bit : stuffDue run frame ≡ false → mustBe frame ≡ 1 - b → verdict run frame place b ≡ wrong (FixedBit place)
+      pub fixed-bit : stuffDue run frame ≡ false → fits (mustBe frame) b ≡ false → verdict run frame place b ≡ wrong (FixedBit place)
       unfolding verdict
-      fixed-bit due e = simp (begun, le-ltb 1 b bit, due, eq-eqb (mustBe frame) (1 - b) e)
+      fixed-bit due e = simp (begun, le-ltb 1 b bit, due, e)
 
-      pub frame-bit : stuffDue run frame ≡ false → (mustBe frame ≡ 1 - b → ⊥) → verdict run frame place b ≡ shown (frame ++ (b ∷ [])) place
+      pub frame-bit : stuffDue run frame ≡ false → fits (mustBe frame) b ≡ true → verdict run frame place b ≡ shown (frame ++ (b ∷ [])) place
       unfolding verdict
-      frame-bit due n = simp (begun, le-ltb 1 b bit, due, ne-eqb (mustBe frame) (1 - b) n)
+      frame-bit due e = simp (begun, le-ltb 1 b bit, due, e)
 
 -- what the test of the DLC says
 pub dlc-taken : (frame : List ℕ) → (dlcIn frame ≡ 1 → ⊥) → dlcIn frame ≤ 8 → dlcRefused frame ≡ false

@@ -1,20 +1,23 @@
--- What the frame of a line holds, from its bits. Assumes nothing.
+-- What the frame of a line holds, as numbers; cited between the crates alone. Assumes nothing.
 use Prim.Native.Nat.{ℕ, _*_}
 use mathlib.Core.List.{List}
 use lib.ListN.{take, drop}
 use Rattle.bits.specs.Rows.{number}
-use Rattle.scanning.specs.Scan.{dlcIn, Scanned, whole, stopped}
+use Rattle.refusals.specs.Table.{Numbers, given, inTable}
+use Rattle.scanning.specs.Scan.{identifierIn, dlcIn, Scanned, whole, stopped}
 use Rattle.scanning.specs.declared.Held.{Held}
 use Rattle.scanning.specs.declared.Held.the-variants.{Frame, Refused}
 
--- the identifier and the data bits among the frame's bits, each as one number
-unfoldable pub identifierIn : List ℕ → ℕ
-identifierIn frame = number 0 (take 11 (drop 1 frame))
-
+-- the data bits among the frame's bits, as one number [12.16]
 unfoldable pub dataIn : List ℕ → ℕ
 dataIn frame = number 0 (take (8 * dlcIn frame) (drop 19 frame))
 
--- the first problem met; else identifier, DLC and data bits
+-- the first problem met; else identifier, DLC and data bits [12.1, 12.15]
 abbrev pub heldIn : Scanned → Held
 heldIn (stopped refusal) = Refused refusal
 heldIn (whole frame) = Frame (identifierIn frame) (dlcIn frame) (dataIn frame)
+
+-- in the document's numbers: the DLC, and the identifier; the data bits stand beside them [7.3]
+abbrev pub heldNumbers : Held → Numbers
+heldNumbers (Frame identifier n field) = given n identifier
+heldNumbers (Refused r) = inTable r

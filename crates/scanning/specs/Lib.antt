@@ -1,4 +1,4 @@
-pub mod Fields
+pub mod Form
 pub mod Scan
 pub mod Held
 pub mod Steps

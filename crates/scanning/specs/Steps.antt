@@ -1,35 +1,47 @@
 -- Reading as the code does it, by registers and row by row; no public contract cites it. Assumes nothing.
 use Prim.Native.Nat.{ℕ, _+_, _-_, _*_, _/_, _%_, _^_}
 use mathlib.Core.Path.{_≡_}
-use mathlib.Core.Bool.{Bool, cond, _||_}
+use mathlib.Core.Bool.{Bool, cond, not, _||_}
 use mathlib.Core.List.{List, [], _∷_, _++_}
 use lib.Dec.{eqb, leb, ltb}
-use lib.ListN.{length, getD}
+use lib.ListN.{length, getD, replicate}
 use Rattle.bits.specs.Rows.{bits}
 use Rattle.refusals.specs.declared.Refusal.the-variants.{FieldLength, LineByte, StuffBit, LineLength, Crc, FixedBit}
 use Rattle.crc.specs.Crc.{crc}
 use Rattle.crc.specs.Dlc.{dataBytes}
-use Rattle.scanning.specs.Fields.{fixed, free}
-use Rattle.scanning.specs.Scan.{dlcIn, Scanned, whole, stopped}
-use Rattle.scanning.specs.Held.{identifierIn, dataIn}
+use Rattle.scanning.specs.Form.{either, fits}
+use Rattle.scanning.specs.Scan.{identifierIn, dlcIn, Scanned, whole, stopped}
+use Rattle.scanning.specs.Held.{dataIn}
 use Rattle.scanning.specs.declared.fields.Field.{Field}
 use Rattle.scanning.specs.declared.seen.Seen.{Seen}
 use Rattle.scanning.specs.declared.seen.Step.{Step}
 use Rattle.scanning.specs.declared.seen.Step.the-variants.{Next, Refused}
 
+-- so many bits, each of them this bit; and each of them 0 or 1
+abbrev pub fixedRow : ℕ → ℕ → Field
+fixedRow count bit = record { bits = count; bit = bit }
+
+abbrev pub freeRow : ℕ → Field
+freeRow count = record { bits = count; bit = either }
+
 -- the rows that the code reads by: the fields of a frame with n data bytes, neighbours that must be the same bit in one row
 unfoldable pub rowsOf : ℕ → List Field
 rowsOf n =
-    fixed 1 0  -- start of frame
-    ∷ free 11  -- identifier
-    ∷ fixed 3 0  -- RTR, IDE, reserved bit
-    ∷ free 4  -- DLC
-    ∷ free (8 * n)  -- data
-    ∷ free 15  -- CRC
-    ∷ fixed 1 1  -- CRC delimiter
-    ∷ free 1  -- ACK slot
-    ∷ fixed 8 1  -- ACK delimiter, end bits
+    fixedRow 1 0  -- start of frame
+    ∷ freeRow 11  -- identifier
+    ∷ fixedRow 3 0  -- RTR, IDE, reserved bit
+    ∷ freeRow 4  -- DLC
+    ∷ freeRow (8 * n)  -- data
+    ∷ freeRow 15  -- CRC
+    ∷ fixedRow 1 1  -- CRC delimiter
+    ∷ freeRow 1  -- ACK slot
+    ∷ fixedRow 8 1  -- ACK delimiter, end bits
     ∷ []
+
+-- the bit that must stand at each position of these
+unfoldable pub formOf : List Field → List ℕ
+formOf [] = []
+formOf (field ∷ l) = replicate (field .bits) (field .bit) ++ formOf l
 
 -- the place that comes first
 unfoldable pub least : ℕ → ℕ → ℕ
@@ -98,7 +110,7 @@ refusedBit must bit place = cond (eqb (must + bit) 1) (Refused (FixedBit place))
 unfoldable pub judgedBit : ℕ → List ℕ → Seen → Seen → Step
 judgedBit must line seen next =
     cond (ltb 1 (bitAt line seen)) (Refused (LineByte (seen .place)))
-    (cond (eqb must (1 - bitAt line seen)) (Refused (FixedBit (seen .place)))
+    (cond (not (fits must (bitAt line seen))) (Refused (FixedBit (seen .place)))
     (Next next))
 
 -- a bit up to the CRC, and one behind it

@@ -14,7 +14,7 @@ mod walk;
 use refusals::Refusal;
 use seen::Step;
 
-// What the frame of a line holds: an identifier and n data bytes, whose bits are the lowest of `field`; or a refusal.
+// What the frame of a line holds: an identifier and n data bytes, whose bits are the lowest of `field`; or a refusal. [12.1, 12.15]
 pub enum Held {
     Frame {
         identifier: u32,

@@ -2,11 +2,12 @@
 --     word-back            the word of x stands for x
 --     word-only            nine bits that stand for x are the word of x
 --     word-once            two bytes never share a word
---     something-exactly    nine bits stand for a byte or an escape exactly when they keep the rule
+--     nothing-exactly      nine bits stand for nothing exactly when they do not keep the rule
 --     nothing-above        a number above 511 stands for nothing
 --     escapes-are          the escapes are 001000010 and 110111101
 use mathlib.Core.Path.{_≡_, refl, sym, ap, ap₂, _∙_}
-use mathlib.Core.Bool.{Bool, true, false, cond, _||_}
+use mathlib.Core.Bool.{Bool, true, false, cond, _||_, true≢false}
+use mathlib.Core.Logic.{_↔_}
 use Prim.Native.Nat.{ℕ, _+_, _-_, _≤_, _<_}
 use native.Mathlib.Omega.{arith}
 use lib.Dec.{eqb, ltb}
@@ -14,7 +15,9 @@ use lib.ListN.{getD}
 use borrow.Author.Tests.{lt-ltb, le-ltb, ltb-true, ltb-false, eqb-true, eqb-false, ne-eqb}
 use Rattle.bits.specs.Rows.{bits}
 use Rattle.words.specs.Words.{keepsRule, words, wordOf}
-use Rattle.words.specs.Symbols.{placeIn, symbolAt, symbolOf, something, isEscape}
+use Rattle.words.specs.Symbols.{placeIn, symbolAt, symbolOf}
+use Rattle.words.specs.Lists.{isEscape}
+use Rattle.words.specs.declared.Symbol.{Symbol}
 use Rattle.words.specs.declared.Symbol.the-variants.{Byte, Escape, Nothing}
 use Rattle.words.proofs.Places.{place-found, place-at, place-is}
 use Rattle.words.proofs.Words.{words-258, J-number, K-number, words-rising, words-exactly}
@@ -51,7 +54,13 @@ word-only nine x e =
     let p = byte-place (placeIn words nine) x e in
     (sym (place-found words nine (omega (arith, words-258))) ∙ ap (λ (k : ℕ). getD words k 0) (p .0), p .1)
 
+something : Symbol → Bool
+something (Byte x) = true
+something Escape = true
+something Nothing = false
+
 something-at : (p : ℕ) → something (symbolAt p) ≡ ltb p 258
+unfolding something
 something-at p = go (eqb p 0) refl (ltb p 257) refl (eqb p 257) refl
   where
     go : (a : Bool) → eqb p 0 ≡ a → (b : Bool) → ltb p 257 ≡ b → (c : Bool) → eqb p 257 ≡ c
@@ -63,9 +72,19 @@ something-at p = go (eqb p 0) refl (ltb p 257) refl (eqb p 257) refl
         let other = eqb-false p 257 ec in
         sym (le-ltb p 258 (omega (arith, ltb-false p 257 eb)))
 
-pub something-exactly : (nine : ℕ) → nine < 512 → something (symbolOf nine) ≡ keepsRule (bits 9 nine)
-unfolding symbolOf
-something-exactly nine h = something-at (placeIn words nine) ∙ ap (ltb (placeIn words nine)) (sym words-258) ∙ words-exactly nine h
+-- a symbol that is not something is Nothing
+only-nothing : (y : Symbol) → something y ≡ false → y ≡ Nothing
+unfolding something
+only-nothing (Byte x) e = absurd (true≢false e)
+only-nothing Escape e = absurd (true≢false e)
+only-nothing Nothing e = refl
+
+pub nothing-exactly : (nine : ℕ) → nine < 512 → (symbolOf nine ≡ Nothing) ↔ (keepsRule (bits 9 nine) ≡ false)
+unfolding symbolOf something
+nothing-exactly nine h = (λ e. sym exactly ∙ ap something e, λ e. only-nothing (symbolOf nine) (exactly ∙ e))
+  where
+    exactly : something (symbolOf nine) ≡ keepsRule (bits 9 nine)
+    exactly = something-at (placeIn words nine) ∙ ap (ltb (placeIn words nine)) (sym words-258) ∙ words-exactly nine h
 
 pub nothing-above : (nine : ℕ) → 512 ≤ nine → symbolOf nine ≡ Nothing
 unfolding symbolOf

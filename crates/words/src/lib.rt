@@ -1,18 +1,18 @@
 // The words of 8B9B: the word that carries a byte, and what nine bits stand for.
 //
-// A constant table is copied at each use: a caller that needs several entries takes the list once and lends it to word_in,
-// symbol_in or entry_in. For a single entry there are word and look_up.
+// A constant table is copied at each use: a caller that needs several entries takes the list once and lends it to word_in or
+// entry_in. For a single entry there are word and look_up.
 ghost use mathlib.Core.Path.{_≡_};
 ghost use lib.ListN.{getD};
 ghost use Rattle.words.specs.Words.{wordOf};
-ghost use Rattle.words.specs.Symbols.{symbolAt, symbolOf, isEscape};
-ghost use Rattle.words.specs.Lists.{placeBy, entryBy};
+ghost use Rattle.words.specs.Symbols.{symbolAt, symbolOf};
+ghost use Rattle.words.specs.Lists.{placeBy, entryBy, isEscape};
 
-pub mod reverse_list;
+mod reverse_list;
 pub mod short_list;
 pub mod word_list;
 
-// What nine bits stand for.
+// What nine bits stand for. [2.5]
 pub enum Symbol {
     Byte(u8),
     Escape,
@@ -43,7 +43,7 @@ pub fn look_up(nine: u16) -> Symbol
 }
 
 // What nine bits stand for by a reverse list that the caller lends.
-pub fn symbol_in(list: &[u16; 512], nine: u16) -> Symbol
+fn symbol_in(list: &[u16; 512], nine: u16) -> Symbol
     ensures { λ r. ⌜ r ≡ symbolAt (placeBy (now (list .entry)) nine) ⌝ }
 {
     symbol_at(place_in(list, nine))

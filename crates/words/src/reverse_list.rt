@@ -518,7 +518,7 @@ const PLACES: [u16; 512] = [
     258, // 111111111
 ];
 
-pub fn list() -> [u16; 512]
+pub(crate) fn list() -> [u16; 512]
     ensures { λ r. ⌜ r ≡ reverseList ⌝ }
 {
     PLACES

@@ -7,6 +7,8 @@ use native.Mathlib.Nat.{le-trans}
 use borrow.Author.Needs.{needs}
 use lib.ListN.{length, drop}
 use Rattle.refusals.specs.declared.Answer.the-variants.{Length}
+use Rattle.refusals.proofs.After.{refused-keeps}
+use Rattle.frame.specs.Answers.{payloadLine}
 use Rattle.frame.specs.Framing.{Gives, IsFrame}
 use Rattle.frame.specs.declared.framing.Framed.{Framed}
 use Rattle.frame.proofs.FrameAnswers.{make-short, make-accepts}
@@ -60,7 +62,11 @@ returns-2 c =
     )
 
 returns-3 : tie.Need-returns-3
-returns-3 c = (sym (framed (c .before .before .before) _ (c .before .refusal .given .1) .1 _), refl)
+returns-3 c =
+    let found = c .before .before .before in
+    let args = found .before .before .before .args in
+    let refusal = c .before .refusal .given in
+    (sym (framed found _ (refusal .1) .1 _), sym (refused-keeps (payloadLine (args .identifier) (args .payload .now)) _ (refusal .0 .0)))
 
 pub make-frame-spec : {M : Type 1} → statement M
 make-frame-spec =

@@ -5,7 +5,8 @@ use Prim.Native.Nat.{ℕ}
 use lib.ListN.{length}
 use borrow.Author.Needs.{needs}
 use Rattle.refusals.specs.After.{after}
-use Rattle.line.specs.Read.{answerOf}
+use Rattle.refusals.proofs.After.{refused-keeps}
+use Rattle.line.specs.Read.{payloadIn, lineNumbers}
 use Rattle.line.proofs.FromScan.{from-held, from-refused}
 use Rattle.line.proofs.read_line.Statement.{statement}
 use Rattle.line.proofs.read_line.Tie as tie
@@ -33,11 +34,16 @@ returns c =
     let read = from-held (args .line .now) _ _ _ (length (args .payload .now)) told in
     let said = c .before .before .decode .ensures in (
       said .0 ∙ read .0,
-      said .1 ∙ ap (λ (l : List ℕ). after (answerOf (c .before .before .decode .result)) l (args .payload .now)) (read .1),
+      said .1 ∙ ap (λ (l : List ℕ). after (lineNumbers (c .before .before .decode .result)) l (args .payload .now)) (read .1),
     )
 
 returns-2 : tie.Need-returns-2
-returns-2 c = (sym (from-refused _ _ _ (sym (c .before .before .before .scan .ensures) ∙ c .before .refusal .given .1)), refl)
+returns-2 c =
+    let found = c .before .before .before in
+    let args = found .before .before .before .args in
+    let refusal = c .before .refusal .given in
+    let told = sym (found .scan .ensures) ∙ refusal .1 in
+    (sym (from-refused _ _ _ told), sym (refused-keeps (payloadIn (args .line .now)) _ (refusal .0 .0)))
 
 pub read-line-spec : {M : Type 1} → statement M
 read-line-spec =

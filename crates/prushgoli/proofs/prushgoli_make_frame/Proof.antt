@@ -1,9 +1,9 @@
 -- `prushgoli::prushgoli_make_frame` meets its contract: it passes on what `frame::make_frame` answered and left. Assumes nothing.
 use borrow.Author.Needs.{needs}
 use Rattle.refusals.specs.After.{after}
+use Rattle.refusals.specs.Table.{answerNumbers}
 use Rattle.refusals.specs.declared.Answer.{Answer}
 use Rattle.frame.specs.Answers.{payloadLine}
-use Rattle.prushgoli.specs.Packing.{packedAnswer}
 use Rattle.prushgoli.proofs.Packed.{same-packed}
 use Rattle.prushgoli.proofs.Fits.{make-fits}
 use Rattle.prushgoli.proofs.prushgoli_make_frame.Statement.{statement}
@@ -13,7 +13,7 @@ make-frame-requires : tie.Need-make-frame-requires
 make-frame-requires c κs = search needs
 
 answer-requires : tie.Need-answer-requires
-answer-requires c κs = make-fits _ _ _ _ (c .before .before .make-frame .ensures .0)
+answer-requires c κs = make-fits _ _ _ _ (c .before .before .make-frame .ensures .0) .low
 
 same-length : tie.Need-same-length
 same-length c = search needs
@@ -22,7 +22,7 @@ returns : tie.Need-returns
 returns c =
     let args = c .before .before .before .before .before .before .before .args in
     let called = c .before .before .before .make-frame in
-    same-packed packedAnswer (λ (a : Answer). after a (payloadLine (args .identifier) (args .payload .now)) (args .line .now)) (called .result)
+    same-packed answerNumbers (λ (a : Answer). after (answerNumbers a) (payloadLine (args .identifier) (args .payload .now)) (args .line .now)) (called .result)
     _ _ _ (called .ensures .0) (c .answer .ensures) (called .ensures .1)
 
 pub prushgoli-make-frame-spec : {M : Type 1} → statement M

@@ -7,6 +7,7 @@ use lib.ListN.{length}
 use borrow.Author.Needs.{needs}
 use Rattle.bits.proofs.Loading.{store-result}
 use Rattle.refusals.specs.declared.Answer.the-variants.{Length}
+use Rattle.refusals.proofs.After.{refused-keeps}
 use Rattle.field.specs.Table.{rowOf}
 use Rattle.field.specs.Coded.{fieldFrom}
 use Rattle.field.proofs.Coded.{from-length}
@@ -73,7 +74,10 @@ returns c =
     )
 
 returns-2 : tie.Need-returns-2
-returns-2 c = (sym (read (c .before .before .before) _ (c .before .refusal .given .1)), refl)
+returns-2 c =
+    let found = c .before .before .before in
+    let refusal = c .before .refusal .given in
+    (sym (read found _ (refusal .1)), sym (refused-keeps (payloadOf (field found)) _ (refusal .0 .0)))
 
 pub sized-spec : {M : Type 1} → statement M
 sized-spec =

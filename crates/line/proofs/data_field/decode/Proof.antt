@@ -2,11 +2,14 @@
 use mathlib.Core.Path.{_≡_, sym, ap, _∙_}
 use lib.ListN.{length}
 use borrow.Author.Needs.{needs}
+use Rattle.refusals.specs.Table.{answerNumbers}
 use Rattle.refusals.specs.After.{after}
 use Rattle.refusals.specs.declared.Answer.{Answer}
 use Rattle.field.specs.Coded.{fieldFrom}
-use Rattle.decoding.specs.Decode.{decodeAnswer, payloadOf}
-use Rattle.line.specs.Read.{withIdentifier}
+use Rattle.decoding.specs.Decode.{payloadOf}
+use Rattle.decoding.specs.Number.{numberAnswer}
+use Rattle.line.specs.Read.{withIdentifier, lineNumbers}
+use Rattle.line.proofs.ReadAnswers.{buffer-alone}
 use Rattle.line.proofs.data_field.decode.Statement.{statement}
 use Rattle.line.proofs.data_field.decode.Tie as tie
 
@@ -18,13 +21,15 @@ said : (c : tie.After-decode-number) (a : Answer) → c .decode-number .result �
     let args = c .before .before .before .args in
     let field = fieldFrom (args .n) (args .field) in
     (withIdentifier (args .identifier) a
-    ≡ withIdentifier (args .identifier) (decodeAnswer field (length (args .payload .now))))
-    × (c .decode-number .last .1 .1 .0 ≡ after a (payloadOf field) (args .payload .now))
+    ≡ withIdentifier (args .identifier) (numberAnswer (args .n) (args .field) (length (args .payload .now))))
+    × (c .decode-number .last .1 .1 .0 ≡ after (lineNumbers (withIdentifier (args .identifier) a)) (payloadOf field) (args .payload .now))
 said c a e =
     let args = c .before .before .before .args in
+    let payload = payloadOf (fieldFrom (args .n) (args .field)) in
+    let old = args .payload .now in
     let said = c .decode-number .ensures in (
       ap (withIdentifier (args .identifier)) (sym e ∙ said .0),
-      said .1 ∙ ap (λ (x : Answer). after x (payloadOf (fieldFrom (args .n) (args .field))) (args .payload .now)) e,
+      said .1 ∙ ap (λ (x : Answer). after (answerNumbers x) payload old) e ∙ sym (buffer-alone (args .identifier) a payload old),
     )
 
 enum-known-length : tie.Need-enum-known-length

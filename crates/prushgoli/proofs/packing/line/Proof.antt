@@ -1,36 +1,35 @@
 -- `prushgoli::packing::line` meets its contract. Assumes nothing.
 use mathlib.Core.Path.{_≡_, sym, ap, _∙_, subst}
-use Prim.Native.Nat.{_^_}
+use Prim.Native.Nat.{_^_, _<_}
 use borrow.Author.Needs.{needs}
-use Rattle.bits.specs.Below.{Below}
-use Rattle.refusals.specs.Table.{answerNumbers}
-use Rattle.line.specs.Read.{answerOf}
+use Rattle.line.specs.Read.{lineNumbers}
 use Rattle.line.specs.declared.Line.{Line}
-use Rattle.prushgoli.specs.Packing.{packedLine}
+use Rattle.prushgoli.specs.Packing.{pack}
 use Rattle.prushgoli.proofs.packing.line.Statement.{statement}
 use Rattle.prushgoli.proofs.packing.line.Tie as tie
 
 -- in its case
-small : (c : tie.Start) (a : Line) → c .args .line ≡ a → Below (2 ^ 16) (answerNumbers (answerOf a))
-small c a e = subst (λ (x : Line). Below (2 ^ 16) (answerNumbers (answerOf x))) e (c .pre)
+small : (c : tie.Start) (a : Line) → c .args .line ≡ a → lineNumbers a .low < 2 ^ 16
+small c a e = subst (λ (x : Line). lineNumbers x .low < 2 ^ 16) e (c .pre)
 
 enum-known-line : tie.Need-enum-known-line
 enum-known-line c = search needs
 
 pack-requires : tie.Need-pack-requires
-pack-requires c κs = small (c .before .before .before) _ (c .before .line .given .1) .1 .0
+pack-requires c κs = small (c .before .before .before) _ (c .before .line .given .1)
 
 enum-known-line-2 : tie.Need-enum-known-line-2
 enum-known-line-2 c = search needs
 
 refused-requires : tie.Need-refused-requires
-refused-requires c κs = small (c .before .before .before) _ (c .before .line2 .given .1) .1 .0
+refused-requires c κs = small (c .before .before .before) _ (c .before .line2 .given .1)
 
 returns : tie.Need-returns
-returns c = c .pack .ensures ∙ ap packedLine (sym (c .before .before .line .given .1))
+unfolding pack
+returns c = c .pack .ensures ∙ ap (λ (l : Line). pack (lineNumbers l)) (sym (c .before .before .line .given .1))
 
 returns-2 : tie.Need-returns-2
-returns-2 c = c .refused .ensures ∙ ap packedLine (sym (c .before .before .line2 .given .1))
+returns-2 c = c .refused .ensures ∙ ap (λ (l : Line). pack (lineNumbers l)) (sym (c .before .before .line2 .given .1))
 
 pub line-spec : {M : Type 1} → statement M
 line-spec =

@@ -1,7 +1,6 @@
 -- `prushgoli::packing::pack` meets its contract: no part reaches into another. Assumes nothing.
 use native.Mathlib.Omega.{arith}
 use borrow.Author.Needs.{needs}
-use Rattle.prushgoli.specs.Packing.{pack}
 use Rattle.prushgoli.proofs.packing.pack.Statement.{statement}
 use Rattle.prushgoli.proofs.packing.pack.Tie as tie
 
@@ -12,7 +11,6 @@ add-result-2 : tie.Need-add-result-2
 add-result-2 c = search needs
 
 returns : tie.Need-returns
-unfolding pack
 returns c = omega arith
 
 pub pack-spec : {M : Type 1} → statement M
