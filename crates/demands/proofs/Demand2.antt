@@ -4,7 +4,7 @@
 --     words-ordered    258 words keep the rule, and stand in order
 --     escapes          the first is J, the last is K, and both stand for an escape
 --     byte-carried     byte x is carried by the word at place x + 1, and by no other nine bits
---     rule-exactly     nine bits stand for a byte or an escape exactly when they keep the rule
+--     rule-exactly     nine bits stand for nothing, no byte and no escape, exactly when they do not keep the rule
 --     field-bits       a field is the break bit, the words in payload order, and padding
 --     frame-bits       a frame is header, field and CRC, stuffed but for the last CRC bit, and ten bits 1
 --     field-left       given room, encoding leaves the field at the start of a lent buffer, and behind it the old bytes
@@ -14,6 +14,8 @@
 --     field-accepted   an accepted field is the one that coding gives for the payload that it answers
 --     line-accepted    an accepted line is the one that making gives for identifier and payload, the ACK slot apart
 use mathlib.Core.Path.{_≡_, refl, sym, ap, ap₂, _∙_}
+use mathlib.Core.Bool.{false}
+use mathlib.Core.Logic.{_↔_}
 use lib.Dec.{T}
 use mathlib.Core.List.{List, [], _∷_, _++_, map}
 use Prim.Native.Nat.{ℕ, _+_, _/_, _%_, _≤_, _<_}
@@ -24,14 +26,15 @@ use Rattle.bits.specs.Rows.{bits}
 use Rattle.bits.specs.Packing.{unpacked}
 use Rattle.bits.specs.Neighbours.{equalNeighbours}
 use Rattle.bits.specs.Stuffing.{nothingSent, stuffed}
+use Rattle.refusals.specs.Table.{answerNumbers}
 use Rattle.refusals.specs.After.{after}
 use Rattle.refusals.specs.declared.Answer.{Answer}
 use Rattle.refusals.specs.declared.Answer.the-variants.{Length}
 use Rattle.words.specs.Words.{keepsRule, words, wordOf}
-use Rattle.words.specs.Symbols.{placeIn, symbolOf, something}
-use Rattle.words.specs.declared.Symbol.the-variants.{Byte, Escape}
+use Rattle.words.specs.Symbols.{placeIn, symbolOf}
+use Rattle.words.specs.declared.Symbol.the-variants.{Byte, Escape, Nothing}
 use Rattle.words.proofs.Words.{words-258, J-is, K-is, words-keep-rule, words-rise}
-use Rattle.words.proofs.Symbols.{word-back, word-only, something-exactly}
+use Rattle.words.proofs.Symbols.{word-back, word-only, nothing-exactly}
 use Rattle.field.specs.Sizes.{fieldBytes, breakBit, paddingBits}
 use Rattle.field.specs.Padding.{padding}
 use Rattle.field.specs.Field.{fieldBits, fieldOf}
@@ -46,7 +49,7 @@ use Rattle.frame.specs.Answers.{payloadLine, makeAnswer}
 use Rattle.frame.proofs.PayloadLine.{frame-is}
 use Rattle.frame.proofs.FrameAnswers.{make-accepts}
 use Rattle.line.specs.Ack.{withAck}
-use Rattle.line.specs.Read.{readAnswer, payloadIn, answerOf}
+use Rattle.line.specs.Read.{readAnswer, payloadIn, lineNumbers}
 use Rattle.line.specs.declared.Line.{Line}
 use Rattle.line.specs.declared.Line.the-variants.{Frame}
 use Rattle.line.proofs.RoundTrip.{Coded, own-ack, read-made, accepted-is-coded}
@@ -70,8 +73,8 @@ pub byte-carried : (x : ℕ) → x < 256
 unfolding wordOf
 byte-carried x byte = (refl, word-back x byte, λ nine stands. word-only nine x stands .0)
 
-pub rule-exactly : (nine : ℕ) → nine < 512 → something (symbolOf nine) ≡ keepsRule (bits 9 nine)
-rule-exactly = something-exactly
+pub rule-exactly : (nine : ℕ) → nine < 512 → (symbolOf nine ≡ Nothing) ↔ (keepsRule (bits 9 nine) ≡ false)
+rule-exactly = nothing-exactly
 
 pub field-bits : (payload : List ℕ) → length payload ≤ 7 →
     let n = fieldBytes (length payload) in
@@ -94,43 +97,43 @@ frame-bits = frame-is
 pub field-left : (payload buffer : List ℕ) → length payload ≤ 7 → fieldBytes (length payload) ≤ length buffer →
     let n = fieldBytes (length payload) in
     (encodeAnswer payload (length buffer) ≡ Length n)
-    × (after (encodeAnswer payload (length buffer)) (fieldOf payload) buffer ≡ fieldOf payload ++ drop n buffer)
+    × (after (answerNumbers (encodeAnswer payload (length buffer))) (fieldOf payload) buffer ≡ fieldOf payload ++ drop n buffer)
 field-left payload buffer short room =
     let encoded = encode-accepts payload (length buffer) short room in (
       encoded,
-      ap (λ (a : Answer). after a (fieldOf payload) buffer) encoded
+      ap (λ (a : Answer). after (answerNumbers a) (fieldOf payload) buffer) encoded
           ∙ ap (λ (k : ℕ). fieldOf payload ++ drop k buffer) (field-length payload),
     )
 
 pub line-left : (identifier : ℕ) (payload buffer : List ℕ) → identifier ≤ 2047 → length payload ≤ 7 → 116 ≤ length buffer →
     let line = payloadLine identifier payload in
     (makeAnswer identifier payload (length buffer) ≡ Length (length line))
-    × (after (makeAnswer identifier payload (length buffer)) line buffer ≡ line ++ drop (length line) buffer)
+    × (after (answerNumbers (makeAnswer identifier payload (length buffer))) line buffer ≡ line ++ drop (length line) buffer)
 line-left identifier payload buffer known short room =
     let made = make-accepts identifier payload (length buffer) known short room in
-    (made, ap (λ (a : Answer). after a (payloadLine identifier payload) buffer) made)
+    (made, ap (λ (a : Answer). after (answerNumbers a) (payloadLine identifier payload) buffer) made)
 
 module _ (payload buffer buffer′ : List ℕ) (bytes : Below 256 payload) (short : length payload ≤ 7) (fits : length payload ≤ length buffer′) where
   pub field-back : fieldBytes (length payload) ≤ length buffer →
-      let field = take (fieldBytes (length payload)) (after (encodeAnswer payload (length buffer)) (fieldOf payload) buffer) in
+      let field = take (fieldBytes (length payload)) (after (answerNumbers (encodeAnswer payload (length buffer))) (fieldOf payload) buffer) in
       (field ≡ fieldOf payload)
       × (decodeAnswer field (length buffer′) ≡ Length (length payload))
-      × (after (decodeAnswer field (length buffer′)) (payloadOf field) buffer′ ≡ payload ++ drop (length payload) buffer′)
+      × (after (answerNumbers (decodeAnswer field (length buffer′))) (payloadOf field) buffer′ ≡ payload ++ drop (length payload) buffer′)
   field-back room =
       let n = fieldBytes (length payload) in
       let left = ap (take n) (field-left payload buffer short room .1)
       ∙ take-at (fieldOf payload) (drop n buffer) n (field-length payload) in
       let decoded = ap (λ (f : List ℕ). decodeAnswer f (length buffer′)) left ∙ decode-encode payload (length buffer′) bytes short fits in
       let carried = ap payloadOf left ∙ payload-of-field payload bytes short in
-      (left, decoded, ap₂ (λ (a : Answer) (p : List ℕ). after a p buffer′) decoded carried)
+      (left, decoded, ap₂ (λ (a : Answer) (p : List ℕ). after (answerNumbers a) p buffer′) decoded carried)
 
   pub frame-back : (identifier ack : ℕ) → identifier ≤ 2047 → ack < 2 → 116 ≤ length buffer →
       let n = length (payloadLine identifier payload) in
-      let made = take n (after (makeAnswer identifier payload (length buffer)) (payloadLine identifier payload) buffer) in
+      let made = take n (after (answerNumbers (makeAnswer identifier payload (length buffer))) (payloadLine identifier payload) buffer) in
       let line = withAck ack made in
       (withAck 1 made ≡ made)
       × (readAnswer line (length buffer′) ≡ Frame identifier (length payload))
-      × (after (answerOf (readAnswer line (length buffer′))) (payloadIn line) buffer′ ≡ payload ++ drop (length payload) buffer′)
+      × (after (lineNumbers (readAnswer line (length buffer′))) (payloadIn line) buffer′ ≡ payload ++ drop (length payload) buffer′)
   frame-back identifier ack known slot room =
       let whole = payloadLine identifier payload in
       let n = length whole in
@@ -139,7 +142,7 @@ module _ (payload buffer buffer′ : List ℕ) (bytes : Below 256 payload) (shor
       let read = ap (λ (l : List ℕ). readAnswer (withAck ack l) (length buffer′)) left ∙ own .0 in
       let carried = ap (λ (l : List ℕ). payloadIn (withAck ack l)) left ∙ own .1 in
       let same = ap (withAck 1) left ∙ own-ack identifier payload ∙ sym left in
-      (same, read, ap₂ (λ (a : Line) (p : List ℕ). after (answerOf a) p buffer′) read carried)
+      (same, read, ap₂ (λ (a : Line) (p : List ℕ). after (lineNumbers a) p buffer′) read carried)
 
 -- ---- each field or frame accepted is the one that coding gives, the ACK slot apart
 

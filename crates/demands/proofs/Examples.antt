@@ -1,9 +1,9 @@
--- Document 01's worked cases that are to be proved, those marked *, as one statement over one list; and those of bounds, which
--- have no star. Assumes nothing.
+-- Document 01's worked cases that are to be proved, those marked *, as one statement over one list; those of bounds, which have no star;
+-- and its table by size. Assumes nothing.
 --     starred-right    what the definitions give in each case is what the document says
 --     bounds-right     the same of the bounds
-use mathlib.Core.Path.{_≡_, refl}
-use mathlib.Core.List.{map}
+--     table-right      and of the eight rows of the table
+use mathlib.Core.Path.{refl}
 use Rattle.bits.specs.Rows.{bits, number}
 use Rattle.bits.specs.Packing.{unpacked, packed}
 use Rattle.bits.specs.Neighbours.{equalNeighbours}
@@ -19,12 +19,21 @@ use Rattle.frame.specs.Header.{header}
 use Rattle.frame.specs.Line.{crcBits, stuffedRow, lineOf, frameLine}
 use Rattle.frame.specs.StuffBits.{stuffBitsIn, headerStuffBits}
 use Rattle.frame.specs.Answers.{lengthAnswer, boundsAnswer}
-use Rattle.demands.specs.Cases.{starred, ofBounds, found, said}
+use Rattle.demands.specs.Cases.{starred, ofBounds, bySize, AllRight}
 
-pub starred-right : map found starred ≡ map said starred
+-- a case, and the others behind it
+infixr 5 _and_
+_and_ : {A B : Type 0} → A → B → A × B
+a and b = (a, b)
+
+pub starred-right : AllRight starred
 unfolding bits number unpacked packed equalNeighbours words wordOf placeIn symbolOf padding fieldBits fieldOf breakPart wordsPart paddingPart decodeAnswer stuffAfter runAfter stuffed stuffCount runAfterRow header xor divide remainder crc crcBits stuffedRow lineOf frameLine stuffBitsIn lengthAnswer
-starred-right = refl
+starred-right =
+    refl and refl and refl and refl and refl and refl and refl and refl and refl and refl and refl and refl and refl and (refl, refl, refl, refl) and tt
 
-pub bounds-right : map found ofBounds ≡ map said ofBounds
+pub bounds-right : AllRight ofBounds
 unfolding bits stuffAfter runAfter stuffCount header headerStuffBits boundsAnswer
-bounds-right = refl
+bounds-right = refl and refl and refl and refl and tt
+
+pub table-right : AllRight bySize
+table-right = (refl, refl, refl, refl) and (refl, refl, refl, refl) and (refl, refl, refl, refl) and (refl, refl, refl, refl) and (refl, refl, refl, refl) and (refl, refl, refl, refl) and (refl, refl, refl, refl) and (refl, refl, refl, refl) and tt

@@ -1,23 +1,34 @@
 -- Demand 1, at the calls for C: what C reads out of the one number that it is answered are document 01's numbers of the answer, the
--- refusal's number and its place, or 0 and the length, the bounds, or identifier and length. Each is about an outcome that the contract
+-- refusal's number and its place, or 0 and the length, the bounds, or length and identifier. Each is about an outcome that the contract
 -- allows. Assumes nothing.
 --     encode-told, decode-told, make-frame-told, frame-length-told, frame-bounds-told, read-line-told
+--     answer-exactly, bounds-exactly, line-exactly    C reads the numbers of an answer exactly when that is the answer: so of each call it
+--                    reads the number and the place of a refusal exactly when Exactly and LineRefusals say
 --     length-told    of an answer that is a length C reads no refusal, and the length
-use mathlib.Core.Path.{_≡_, refl, ap, _∙_}
-use mathlib.Core.List.{List}
+--     none-told      and where it reads no refusal, the answer is the length that it reads
+--     frame-told     of a line that C reads no refusal of, the answer is the identifier and the length that it reads
+use mathlib.Core.Path.{_≡_, refl, sym, ap, ap₂, _∙_}
+use mathlib.Core.Logic.{_↔_}
 use Prim.Native.Nat.{ℕ}
 use contract.Lifetimes.{Lfts}
 use denote.Ref.{now}
-use lib.ListN.{length, getD}
-use Rattle.refusals.specs.Table.{answerNumbers}
+use lib.ListN.{length}
+use Rattle.refusals.specs.Table.{Numbers, answerNumbers}
 use Rattle.refusals.specs.declared.Answer.{Answer}
-use Rattle.refusals.specs.declared.Answer.the-variants.{Length}
+use Rattle.refusals.specs.declared.Answer.the-variants.{Length, Refused}
+use Rattle.refusals.proofs.Table.{number-some}
+use Rattle.refusals.proofs.Answers.{answer-only}
 use Rattle.field.specs.Encode.{encodeAnswer}
 use Rattle.decoding.specs.Decode.{decodeAnswer}
 use Rattle.frame.specs.Answers.{makeAnswer, lengthAnswer, boundsAnswer, boundsNumbers}
+use Rattle.frame.specs.declared.Bounds.{Bounds}
+use Rattle.frame.proofs.BoundsAnswers.{bounds-only}
 use Rattle.line.specs.Read.{readAnswer, lineNumbers}
-use Rattle.prushgoli.specs.Packing.{lowPart, refusalPart, answerTold, boundsTold, lineTold}
-use Rattle.prushgoli.proofs.Packed.{answer-told, bounds-told, line-told}
+use Rattle.line.specs.declared.Line.{Line}
+use Rattle.line.specs.declared.Line.the-variants as line
+use Rattle.line.proofs.ReadAnswers.{line-only}
+use Rattle.prushgoli.specs.Packing.{told}
+use Rattle.prushgoli.proofs.Packed.{told-back}
 use Rattle.prushgoli.proofs.Fits.{encode-fits, decode-fits, length-fits, make-fits, bounds-fit, read-fits}
 use Rattle.prushgoli.proofs.prushgoli_encode.Reads as encode
 use Rattle.prushgoli.proofs.prushgoli_decode.Reads as decode
@@ -27,42 +38,60 @@ use Rattle.prushgoli.proofs.prushgoli_frame_bounds.Reads as frame-bounds
 use Rattle.prushgoli.proofs.prushgoli_read_line.Reads as read-line
 
 pub encode-told : (κs : Lfts 2) (i : _) (a : ℕ) (s : _) → encode.Learnt κs i a s
-    → answerTold a ≡ answerNumbers (encodeAnswer (now (i .0)) (length (now (i .1 .0))))
+    → told a ≡ answerNumbers (encodeAnswer (now (i .0)) (length (now (i .1 .0))))
 encode-told κs i a s allowed =
     let answer = encodeAnswer (now (i .0)) (length (now (i .1 .0))) in
-    ap answerTold (allowed .0) ∙ answer-told answer (encode-fits _ _ answer refl)
+    ap told (allowed .0) ∙ told-back (answerNumbers answer) (encode-fits _ _ answer refl)
 
 pub decode-told : (κs : Lfts 2) (i : _) (a : ℕ) (s : _) → decode.Learnt κs i a s
-    → answerTold a ≡ answerNumbers (decodeAnswer (now (i .0)) (length (now (i .1 .0))))
+    → told a ≡ answerNumbers (decodeAnswer (now (i .0)) (length (now (i .1 .0))))
 decode-told κs i a s allowed =
     let answer = decodeAnswer (now (i .0)) (length (now (i .1 .0))) in
-    ap answerTold (allowed .0) ∙ answer-told answer (decode-fits (now (i .0)) (length (now (i .1 .0))) answer refl)
+    ap told (allowed .0) ∙ told-back (answerNumbers answer) (decode-fits (now (i .0)) (length (now (i .1 .0))) answer refl)
 
 pub make-frame-told : (κs : Lfts 2) (i : _) (a : ℕ) (s : _) → make-frame.Learnt κs i a s
-    → answerTold a ≡ answerNumbers (makeAnswer (i .0) (now (i .1 .0)) (length (now (i .1 .1 .0))))
+    → told a ≡ answerNumbers (makeAnswer (i .0) (now (i .1 .0)) (length (now (i .1 .1 .0))))
 make-frame-told κs i a s allowed =
     let answer = makeAnswer (i .0) (now (i .1 .0)) (length (now (i .1 .1 .0))) in
-    ap answerTold (allowed .0) ∙ answer-told answer (make-fits _ _ _ answer refl)
+    ap told (allowed .0) ∙ told-back (answerNumbers answer) (make-fits _ _ _ answer refl)
 
 pub frame-length-told : (κs : Lfts 1) (i : _) (a : ℕ) (s : _) → frame-length.Learnt κs i a s
-    → answerTold a ≡ answerNumbers (lengthAnswer (i .0) (now (i .1 .0)))
+    → told a ≡ answerNumbers (lengthAnswer (i .0) (now (i .1 .0)))
 frame-length-told κs i a s allowed =
     let answer = lengthAnswer (i .0) (now (i .1 .0)) in
-    ap answerTold allowed ∙ answer-told answer (length-fits _ _ answer refl)
+    ap told allowed ∙ told-back (answerNumbers answer) (length-fits _ _ answer refl)
 
 pub frame-bounds-told : (κs : Lfts 0) (i : _) (a : ℕ) (s : _) → frame-bounds.Learnt κs i a s
-    → boundsTold a ≡ boundsNumbers (boundsAnswer (i .0) (i .1 .0))
+    → told a ≡ boundsNumbers (boundsAnswer (i .0) (i .1 .0))
 frame-bounds-told κs i a s allowed =
     let answer = boundsAnswer (i .0) (i .1 .0) in
-    ap boundsTold allowed ∙ bounds-told answer (bounds-fit _ _ answer refl)
+    ap told allowed ∙ told-back (boundsNumbers answer) (bounds-fit _ _ answer refl)
 
 pub read-line-told : (κs : Lfts 2) (i : _) (a : ℕ) (s : _) → read-line.Learnt κs i a s
-    → lineTold a ≡ lineNumbers (readAnswer (now (i .0)) (length (now (i .1 .0))))
+    → told a ≡ lineNumbers (readAnswer (now (i .0)) (length (now (i .1 .0))))
 read-line-told κs i a s allowed =
     let answer = readAnswer (now (i .0)) (length (now (i .1 .0))) in
-    ap lineTold (allowed .0) ∙ line-told answer (read-fits _ _ answer refl)
+    ap told (allowed .0) ∙ told-back (lineNumbers answer) (read-fits _ _ answer refl)
 
-pub length-told : {x : Answer} {n : ℕ} (a : ℕ) → answerTold a ≡ answerNumbers x → x ≡ Length n → (refusalPart a ≡ 0) × (lowPart a ≡ n)
-length-told a told is =
-    let numbers = told ∙ ap answerNumbers is in
-    (ap (λ (l : List ℕ). getD l 0 0) numbers, ap (λ (l : List ℕ). getD l 1 0) numbers)
+pub answer-exactly : {x : Answer} (a : ℕ) → told a ≡ answerNumbers x → (y : Answer) → told a ≡ answerNumbers y ↔ x ≡ y
+answer-exactly a is y = (λ read. answer-only _ y (sym is ∙ read), λ same. is ∙ ap answerNumbers same)
+
+pub bounds-exactly : {x : Bounds} (a : ℕ) → told a ≡ boundsNumbers x → (y : Bounds) → told a ≡ boundsNumbers y ↔ x ≡ y
+bounds-exactly a is y = (λ read. bounds-only _ y (sym is ∙ read), λ same. is ∙ ap boundsNumbers same)
+
+pub line-exactly : {x : Line} (a : ℕ) → told a ≡ lineNumbers x → (y : Line) → told a ≡ lineNumbers y ↔ x ≡ y
+line-exactly a is y = (λ read. line-only _ y (sym is ∙ read), λ same. is ∙ ap lineNumbers same)
+
+pub length-told : {x : Answer} {n : ℕ} (a : ℕ) → told a ≡ answerNumbers x → x ≡ Length n → (told a .refusal ≡ 0) × (told a .low ≡ n)
+length-told a read is =
+    let numbers = read ∙ ap answerNumbers is in
+    (ap (λ (x : Numbers). x .refusal) numbers, ap (λ (x : Numbers). x .low) numbers)
+
+pub none-told : {x : Answer} (a : ℕ) → told a ≡ answerNumbers x → told a .refusal ≡ 0 → x ≡ Length (told a .low)
+none-told {x = Length n} a read none = ap Length (ap (λ (x : Numbers). x .low) (sym read))
+none-told {x = Refused r} a read none = absurd (number-some r (sym none ∙ ap (λ (x : Numbers). x .refusal) read))
+
+pub frame-told : {x : Line} (a : ℕ) → told a ≡ lineNumbers x → told a .refusal ≡ 0 → x ≡ line.Frame (told a .high) (told a .low)
+frame-told {x = line.Frame identifier n} a read none =
+    ap₂ line.Frame (ap (λ (x : Numbers). x .high) (sym read)) (ap (λ (x : Numbers). x .low) (sym read))
+frame-told {x = line.Refused r} a read none = absurd (number-some r (sym none ∙ ap (λ (x : Numbers). x .refusal) read))

@@ -1,7 +1,8 @@
 -- Demand 1, every public call ends with an answer: each meets its contract, whatever the inputs. `statement` is the toolchain's: a call
 -- that is handed what its types say is safe, ends, and leaves what its clauses say. Assumes nothing.
---     c-encode-meets and five more        the calls for C
---     encode-meets and twenty-seven more    the calls in Rattle
+--     c-encode-meets and five more    the calls for C
+--     encode-meets and eleven more    document 01's calls in Rattle
+--     code-meets and twelve more      the calls between the crates
 use Rattle.prushgoli.proofs.prushgoli_encode.Met as c-encode
 use Rattle.prushgoli.proofs.prushgoli_encode.Statement as c-encode-contract
 use Rattle.prushgoli.proofs.prushgoli_decode.Met as c-decode
@@ -16,60 +17,56 @@ use Rattle.prushgoli.proofs.prushgoli_read_line.Met as c-read-line
 use Rattle.prushgoli.proofs.prushgoli_read_line.Statement as c-read-line-contract
 use Rattle.field.proofs.encode.Met as encode
 use Rattle.field.proofs.encode.Statement as encode-contract
-use Rattle.field.proofs.encoding.code.Met as code
-use Rattle.field.proofs.encoding.code.Statement as code-contract
-use Rattle.field.proofs.padding.number_of.Met as padding-number
-use Rattle.field.proofs.padding.number_of.Statement as padding-number-contract
-use Rattle.field.proofs.table.rows.Met as rows
-use Rattle.field.proofs.table.rows.Statement as rows-contract
-use Rattle.field.proofs.table.row_of.Met as row-of
-use Rattle.field.proofs.table.row_of.Statement as row-of-contract
 use Rattle.decoding.proofs.decode.Met as decode
 use Rattle.decoding.proofs.decode.Statement as decode-contract
-use Rattle.decoding.proofs.decode_number.Met as decode-number
-use Rattle.decoding.proofs.decode_number.Statement as decode-number-contract
 use Rattle.frame.proofs.make_frame.Met as make-frame
 use Rattle.frame.proofs.make_frame.Statement as make-frame-contract
 use Rattle.frame.proofs.frame_length.Met as frame-length
 use Rattle.frame.proofs.frame_length.Statement as frame-length-contract
 use Rattle.frame.proofs.frame_bounds.Met as frame-bounds
 use Rattle.frame.proofs.frame_bounds.Statement as frame-bounds-contract
+use Rattle.line.proofs.read_line.Met as read-line
+use Rattle.line.proofs.read_line.Statement as read-line-contract
+use Rattle.records.proofs.record_at.Met as record-at
+use Rattle.records.proofs.record_at.Statement as record-at-contract
+use Rattle.report.proofs.line_at.Met as line-at
+use Rattle.report.proofs.line_at.Statement as line-at-contract
+use Rattle.words.proofs.word.Met as word
+use Rattle.words.proofs.word.Statement as word-contract
+use Rattle.words.proofs.look_up.Met as look-up
+use Rattle.words.proofs.look_up.Statement as look-up-contract
+use Rattle.refusals.proofs.Refusal.number.Met as number
+use Rattle.refusals.proofs.Refusal.number.Statement as number-contract
+use Rattle.refusals.proofs.Refusal.place.Met as place
+use Rattle.refusals.proofs.Refusal.place.Statement as place-contract
+use Rattle.field.proofs.encoding.code.Met as code
+use Rattle.field.proofs.encoding.code.Statement as code-contract
+use Rattle.decoding.proofs.decode_number.Met as decode-number
+use Rattle.decoding.proofs.decode_number.Statement as decode-number-contract
+use Rattle.field.proofs.padding.number_of.Met as padding-number
+use Rattle.field.proofs.padding.number_of.Statement as padding-number-contract
+use Rattle.field.proofs.table.row_of.Met as row-of
+use Rattle.field.proofs.table.row_of.Statement as row-of-contract
 use Rattle.crc.proofs.of_frame.Met as of-frame
 use Rattle.crc.proofs.of_frame.Statement as of-frame-contract
 use Rattle.scanning.proofs.scan.Met as scan
 use Rattle.scanning.proofs.scan.Statement as scan-contract
-use Rattle.line.proofs.read_line.Met as read-line
-use Rattle.line.proofs.read_line.Statement as read-line-contract
-use Rattle.words.proofs.word.Met as word
-use Rattle.words.proofs.word.Statement as word-contract
 use Rattle.words.proofs.word_in.Met as word-in
 use Rattle.words.proofs.word_in.Statement as word-in-contract
-use Rattle.words.proofs.look_up.Met as look-up
-use Rattle.words.proofs.look_up.Statement as look-up-contract
-use Rattle.words.proofs.symbol_in.Met as symbol-in
-use Rattle.words.proofs.symbol_in.Statement as symbol-in-contract
 use Rattle.words.proofs.entry_in.Met as entry-in
 use Rattle.words.proofs.entry_in.Statement as entry-in-contract
 use Rattle.words.proofs.is_escape.Met as is-escape
 use Rattle.words.proofs.is_escape.Statement as is-escape-contract
 use Rattle.words.proofs.word_list.list.Met as word-list
 use Rattle.words.proofs.word_list.list.Statement as word-list-contract
-use Rattle.words.proofs.reverse_list.list.Met as reverse-list
-use Rattle.words.proofs.reverse_list.list.Statement as reverse-list-contract
 use Rattle.words.proofs.short_list.list.Met as short-list
 use Rattle.words.proofs.short_list.list.Statement as short-list-contract
 use Rattle.bits.proofs.bytes.load.Met as load
 use Rattle.bits.proofs.bytes.load.Statement as load-contract
 use Rattle.bits.proofs.bytes.store.Met as store
 use Rattle.bits.proofs.bytes.store.Statement as store-contract
-use Rattle.refusals.proofs.Refusal.number.Met as number
-use Rattle.refusals.proofs.Refusal.number.Statement as number-contract
-use Rattle.refusals.proofs.Refusal.place.Met as place
-use Rattle.refusals.proofs.Refusal.place.Statement as place-contract
-use Rattle.records.proofs.record_at.Met as record-at
-use Rattle.records.proofs.record_at.Statement as record-at-contract
-use Rattle.report.proofs.line_at.Met as line-at
-use Rattle.report.proofs.line_at.Statement as line-at-contract
+
+-- ---- the calls for C
 
 pub c-encode-meets : {M : Type 1} → c-encode-contract.statement M
 c-encode-meets = c-encode.met
@@ -89,26 +86,13 @@ c-frame-bounds-meets = c-frame-bounds.met
 pub c-read-line-meets : {M : Type 1} → c-read-line-contract.statement M
 c-read-line-meets = c-read-line.met
 
+-- ---- document 01's calls in Rattle
+
 pub encode-meets : {M : Type 1} → encode-contract.statement M
 encode-meets = encode.met
 
 pub decode-meets : {M : Type 1} → decode-contract.statement M
 decode-meets = decode.met
-
-pub code-meets : {M : Type 1} → code-contract.statement M
-code-meets = code.met
-
-pub decode-number-meets : {M : Type 1} → decode-number-contract.statement M
-decode-number-meets = decode-number.met
-
-pub rows-meets : {M : Type 1} → rows-contract.statement M
-rows-meets = rows.met
-
-pub row-of-meets : {M : Type 1} → row-of-contract.statement M
-row-of-meets = row-of.met
-
-pub padding-number-meets : {M : Type 1} → padding-number-contract.statement M
-padding-number-meets = padding-number.met
 
 pub make-frame-meets : {M : Type 1} → make-frame-contract.statement M
 make-frame-meets = make-frame.met
@@ -119,26 +103,49 @@ frame-length-meets = frame-length.met
 pub frame-bounds-meets : {M : Type 1} → frame-bounds-contract.statement M
 frame-bounds-meets = frame-bounds.met
 
+pub read-line-meets : {M : Type 1} → read-line-contract.statement M
+read-line-meets = read-line.met
+
+pub record-at-meets : {M : Type 1} → record-at-contract.statement M
+record-at-meets = record-at.met
+
+pub line-at-meets : {M : Type 1} → line-at-contract.statement M
+line-at-meets = line-at.met
+
+pub word-meets : {M : Type 1} → word-contract.statement M
+word-meets = word.met
+
+pub look-up-meets : {M : Type 1} → look-up-contract.statement M
+look-up-meets = look-up.met
+
+pub number-meets : {M : Type 1} → number-contract.statement M
+number-meets = number.met
+
+pub place-meets : {M : Type 1} → place-contract.statement M
+place-meets = place.met
+
+-- ---- the calls between the crates
+
+pub code-meets : {M : Type 1} → code-contract.statement M
+code-meets = code.met
+
+pub decode-number-meets : {M : Type 1} → decode-number-contract.statement M
+decode-number-meets = decode-number.met
+
+pub padding-number-meets : {M : Type 1} → padding-number-contract.statement M
+padding-number-meets = padding-number.met
+
+pub row-of-meets : {M : Type 1} → row-of-contract.statement M
+row-of-meets = row-of.met
+
 pub of-frame-meets : {M : Type 1} → of-frame-contract.statement M
 of-frame-meets = of-frame.met
 
 pub scan-meets : {M : Type 1} → scan-contract.statement M
 scan-meets = scan.met
 
-pub read-line-meets : {M : Type 1} → read-line-contract.statement M
-read-line-meets = read-line.met
-
-pub word-meets : {M : Type 1} → word-contract.statement M
-word-meets = word.met
-
 pub word-in-meets : {M : Type 1} → word-in-contract.statement M
 word-in-meets = word-in.met
-
-pub look-up-meets : {M : Type 1} → look-up-contract.statement M
-look-up-meets = look-up.met
-
-pub symbol-in-meets : {M : Type 1} → symbol-in-contract.statement M
-symbol-in-meets = symbol-in.met
 
 pub entry-in-meets : {M : Type 1} → entry-in-contract.statement M
 entry-in-meets = entry-in.met
@@ -149,9 +156,6 @@ is-escape-meets = is-escape.met
 pub word-list-meets : {M : Type 1} → word-list-contract.statement M
 word-list-meets = word-list.met
 
-pub reverse-list-meets : {M : Type 1} → reverse-list-contract.statement M
-reverse-list-meets = reverse-list.met
-
 pub short-list-meets : {M : Type 1} → short-list-contract.statement M
 short-list-meets = short-list.met
 
@@ -160,15 +164,3 @@ load-meets = load.met
 
 pub store-meets : {M : Type 1} → store-contract.statement M
 store-meets = store.met
-
-pub number-meets : {M : Type 1} → number-contract.statement M
-number-meets = number.met
-
-pub place-meets : {M : Type 1} → place-contract.statement M
-place-meets = place.met
-
-pub record-at-meets : {M : Type 1} → record-at-contract.statement M
-record-at-meets = record-at.met
-
-pub line-at-meets : {M : Type 1} → line-at-contract.statement M
-line-at-meets = line-at.met

@@ -7,14 +7,12 @@
 --     frame-back    the line that making left, with 0 or 1 in its ACK slot, given to reading, gives identifier and payload back
 use mathlib.Core.Path.{_≡_, refl, ap, ap₂, _∙_}
 use mathlib.Core.List.{List, _++_}
-use Prim.Native.Nat.{ℕ, _^_, _≤_, _<_}
-use native.Mathlib.Omega.{arith}
+use Prim.Native.Nat.{ℕ, _≤_, _<_}
 use contract.Lifetimes.{Lfts}
 use denote.Ref.{now}
-use lib.Dec.{lit<}
 use lib.ListN.{length, take, drop}
 use lib.Seq.{take-at}
-use Rattle.bits.specs.Below.{Below}
+use Rattle.refusals.specs.Table.{Numbers, answerNumbers}
 use Rattle.refusals.specs.After.{after}
 use Rattle.refusals.specs.declared.Answer.{Answer}
 use Rattle.field.specs.Sizes.{fieldBytes}
@@ -24,16 +22,19 @@ use Rattle.decoding.specs.Decode.{decodeAnswer, payloadOf}
 use Rattle.decoding.proofs.RoundTrip.{payload-of-field, decode-encode}
 use Rattle.frame.specs.Answers.{payloadLine}
 use Rattle.line.specs.Ack.{withAck}
-use Rattle.line.specs.Read.{readAnswer, payloadIn, answerOf}
+use Rattle.line.specs.Read.{readAnswer, payloadIn, lineNumbers}
 use Rattle.line.specs.declared.Line.{Line}
 use Rattle.line.proofs.RoundTrip.{read-made}
-use Rattle.prushgoli.specs.Packing.{packedLine, lowPart, refusalPart, highPart}
-use Rattle.prushgoli.proofs.Packed.{low-back, number-back, high-back}
+use Rattle.prushgoli.specs.Packing.{told}
 use Rattle.prushgoli.proofs.prushgoli_encode.Reads as encode
+use Rattle.prushgoli.proofs.prushgoli_encode.Kinds as encode-kinds
 use Rattle.prushgoli.proofs.prushgoli_decode.Reads as decode
 use Rattle.prushgoli.proofs.prushgoli_make_frame.Reads as make-frame
+use Rattle.prushgoli.proofs.prushgoli_make_frame.Kinds as make-frame-kinds
 use Rattle.prushgoli.proofs.prushgoli_read_line.Reads as read-line
-use Rattle.demands.proofs.ForC.{encode-told, decode-told, make-frame-told, length-told}
+use Rattle.demands.specs.Runs.{Made}
+use Rattle.demands.proofs.LentBytes.{encode-bytes, make-frame-bytes}
+use Rattle.demands.proofs.ForC.{encode-told, decode-told, make-frame-told, read-line-told, length-told}
 use Rattle.demands.proofs.Demand2.{field-left, line-left}
 
 -- encoding with the inputs i, its answer a, the parameters s after it; the payload fits
@@ -45,26 +46,27 @@ module _ (κs : Lfts 2) (i : _) (a : ℕ) (s : _) (allowed : encode.Learnt κs i
   abbrev n : ℕ
   n = fieldBytes (length payload)
 
-  pub encoded : (refusalPart a ≡ 0) × (lowPart a ≡ n) × (now (s .1 .0) ≡ fieldOf payload ++ drop n (now (i .1 .0)))
+  pub encoded : (told a .refusal ≡ 0) × (told a .low ≡ n) × (now (s .1 .0) ≡ fieldOf payload ++ drop n (now (i .1 .0)))
   encoded =
       let left = field-left payload (now (i .1 .0)) short room in
-      let told = length-told a (encode-told κs i a s allowed) (left .0) in
-      (told .0, told .1, allowed .1 ∙ left .1)
+      let read = length-told a (encode-told κs i a s allowed) (left .0) in
+      (read .0, read .1, allowed .1 ∙ left .1)
 
-  pub field-stands : take (lowPart a) (now (s .1 .0)) ≡ fieldOf payload
+  pub field-stands : take (told a .low) (now (s .1 .0)) ≡ fieldOf payload
   field-stands = ap₂ take (encoded .1) (encoded .2) ∙ take-at (fieldOf payload) (drop n (now (i .1 .0))) n (field-length payload)
 
   -- decoding with the inputs j, its answer b, the parameters t after it
-  pub field-back : (κs′ : Lfts 2) (j : _) (b : ℕ) (t : _) → decode.Learnt κs′ j b t → now (j .0) ≡ take (lowPart a) (now (s .1 .0))
-      → Below 256 payload → length payload ≤ length (now (j .1 .0))
-      → (refusalPart b ≡ 0) × (lowPart b ≡ length payload) × (now (t .1 .0) ≡ payload ++ drop (length payload) (now (j .1 .0)))
-  field-back κs′ j b t also handed bytes fits =
+  pub field-back : (κs′ : Lfts 2) (j : _) (b : ℕ) (t : _) → decode.Learnt κs′ j b t → now (j .0) ≡ take (told a .low) (now (s .1 .0))
+      → Made encode-kinds.ps encode-kinds.r κs i → length payload ≤ length (now (j .1 .0))
+      → (told b .refusal ≡ 0) × (told b .low ≡ length payload) × (now (t .1 .0) ≡ payload ++ drop (length payload) (now (j .1 .0)))
+  field-back κs′ j b t also handed called fits =
+      let bytes = encode-bytes κs i called in
       let old = now (j .1 .0) in
       let field = handed ∙ field-stands in
       let answered = ap (λ (f : List ℕ). decodeAnswer f (length old)) field ∙ decode-encode payload (length old) bytes short fits in
       let carried = ap payloadOf field ∙ payload-of-field payload bytes short in
-      let told = length-told b (decode-told κs′ j b t also) answered in
-      (told .0, told .1, also .1 ∙ ap₂ (λ (x : Answer) (p : List ℕ). after x p old) answered carried)
+      let read = length-told b (decode-told κs′ j b t also) answered in
+      (read .0, read .1, also .1 ∙ ap₂ (λ (x : Answer) (p : List ℕ). after (answerNumbers x) p old) answered carried)
 
 -- making with the inputs i, its answer a, the parameters s after it; identifier, payload and room are in order
 module _ (κs : Lfts 2) (i : _) (a : ℕ) (s : _) (allowed : make-frame.Learnt κs i a s) (known : i .0 ≤ 2047)
@@ -72,33 +74,33 @@ module _ (κs : Lfts 2) (i : _) (a : ℕ) (s : _) (allowed : make-frame.Learnt �
   abbrev line : List ℕ
   line = payloadLine (i .0) (now (i .1 .0))
 
-  pub made : (refusalPart a ≡ 0) × (lowPart a ≡ length line) × (now (s .1 .1 .0) ≡ line ++ drop (length line) (now (i .1 .1 .0)))
+  pub made : (told a .refusal ≡ 0) × (told a .low ≡ length line) × (now (s .1 .1 .0) ≡ line ++ drop (length line) (now (i .1 .1 .0)))
   made =
       let left = line-left (i .0) (now (i .1 .0)) (now (i .1 .1 .0)) known short room in
-      let told = length-told a (make-frame-told κs i a s allowed) (left .0) in
-      (told .0, told .1, allowed .1 ∙ left .1)
+      let read = length-told a (make-frame-told κs i a s allowed) (left .0) in
+      (read .0, read .1, allowed .1 ∙ left .1)
 
-  line-stands : take (lowPart a) (now (s .1 .1 .0)) ≡ line
+  line-stands : take (told a .low) (now (s .1 .1 .0)) ≡ line
   line-stands = ap₂ take (made .1) (made .2) ∙ take-at line (drop (length line) (now (i .1 .1 .0))) (length line) refl
 
   -- reading with the inputs j, its answer b, the parameters t after it
   pub frame-back : (κs′ : Lfts 2) (j : _) (b ack : ℕ) (t : _) → read-line.Learnt κs′ j b t
-      → now (j .0) ≡ withAck ack (take (lowPart a) (now (s .1 .1 .0))) → ack < 2
-      → Below 256 (now (i .1 .0)) → length (now (i .1 .0)) ≤ length (now (j .1 .0)) →
+      → now (j .0) ≡ withAck ack (take (told a .low) (now (s .1 .1 .0))) → ack < 2
+      → Made make-frame-kinds.ps make-frame-kinds.r κs i → length (now (i .1 .0)) ≤ length (now (j .1 .0)) →
       let payload = now (i .1 .0) in
-      (refusalPart b ≡ 0) × (highPart b ≡ i .0) × (lowPart b ≡ length payload)
+      (told b .refusal ≡ 0) × (told b .high ≡ i .0) × (told b .low ≡ length payload)
       × (now (t .1 .0) ≡ payload ++ drop (length payload) (now (j .1 .0)))
-  frame-back κs′ j b ack t also handed slot bytes fits =
+  frame-back κs′ j b ack t also handed slot called fits =
+      let bytes = make-frame-bytes κs i called in
       let payload = now (i .1 .0) in
       let old = now (j .1 .0) in
       let given = handed ∙ ap (withAck ack) line-stands in
       let own = read-made (i .0) payload ack (length old) known bytes short fits slot in
       let answered = ap (λ (l : List ℕ). readAnswer l (length old)) given ∙ own .0 in
       let carried = ap payloadIn given ∙ own .1 in
-      let packed = also .0 ∙ ap packedLine answered in
-      let few : length payload < 2 ^ 16 = omega (arith, short) in (
-        ap refusalPart packed ∙ number-back (length payload) 0 (i .0) few (lit< tt),
-        ap highPart packed ∙ high-back (length payload) 0 (i .0) few (lit< tt),
-        ap lowPart packed ∙ low-back (length payload) 0 (i .0) few,
-        also .1 ∙ ap₂ (λ (x : Line) (p : List ℕ). after (answerOf x) p old) answered carried,
+      let numbers = read-line-told κs′ j b t also ∙ ap lineNumbers answered in (
+        ap (λ (x : Numbers). x .refusal) numbers,
+        ap (λ (x : Numbers). x .high) numbers,
+        ap (λ (x : Numbers). x .low) numbers,
+        also .1 ∙ ap₂ (λ (x : Line) (p : List ℕ). after (lineNumbers x) p old) answered carried,
       )

@@ -1,10 +1,12 @@
--- Document 01's worked cases: those marked *, and those of bounds. What the document says, and what the definitions give. Assumes
--- nothing.
+-- Document 01's worked cases: those marked *, those of bounds, and its table by size. What the document says, beside what the
+-- definitions give: evidence for these, and nothing to believe. Assumes nothing.
+use mathlib.Core.Path.{_≡_}
 use mathlib.Core.List.{List, [], _∷_, _++_}
-use Prim.Native.Nat.{ℕ}
+use Prim.Native.Nat.{ℕ, _*_}
 use lib.ListN.{length}
 use Rattle.bits.specs.Packing.{unpacked}
-use Rattle.refusals.specs.Table.{answerNumbers}
+use Rattle.refusals.specs.Table.{Numbers, given, _at_, answerNumbers}
+use Rattle.field.specs.Sizes.{fieldBytes, breakBit, paddingBits}
 use Rattle.field.specs.Field.{fieldOf}
 use Rattle.decoding.specs.Decode.{decodeAnswer}
 use Rattle.crc.specs.Crc.{crc}
@@ -12,15 +14,17 @@ use Rattle.frame.specs.Header.{header}
 use Rattle.frame.specs.StuffBits.{afterHeader, afterCrc}
 use Rattle.frame.specs.Answers.{lengthAnswer, boundsAnswer, boundsNumbers}
 
--- a payload codes as a field; a field decodes, with room for seven bytes, to a refusal with its number and place; the frame of an
--- identifier and a payload has a CRC, so many stuff bits in the header and in the CRC, and so many bits; asking for the bounds of an
--- identifier and a size is answered, in the document's numbers
+-- a payload codes as a field; a field decodes, with room for seven bytes, to a refusal; the frame of an identifier and a payload has a
+-- CRC, so many stuff bits in the header and in the CRC, and so many bits; asking for the bounds of an identifier and a size is answered
+-- so; a payload's size has, in the table, field bytes, break bit, word bits and padding bits [16.1]
 pub data Case : Type 0 where
   codes : List ℕ → List ℕ → Case
-  refuses : List ℕ → ℕ → ℕ → Case
+  refuses : List ℕ → Numbers → Case
   frames : ℕ → List ℕ → ℕ → ℕ → ℕ → ℕ → Case
-  bounds : ℕ → ℕ → List ℕ → Case
+  bounds : ℕ → ℕ → Numbers → Case
+  row : ℕ → ℕ → List ℕ → ℕ → ℕ → Case
 
+-- those marked * [16.1]
 abbrev pub starred : List Case
 starred =
     codes (0xF0 ∷ []) (0xEA ∷ 0x55 ∷ [])
@@ -33,33 +37,47 @@ starred =
     ∷ codes (0x00 ∷ 0x00 ∷ []) (0x10 ∷ 0xC8 ∷ 0x6A ∷ [])
     ∷ codes (0x00 ∷ 0x00 ∷ 0x00 ∷ 0x00 ∷ 0x00 ∷ 0x00 ∷ 0x00 ∷ []) (0x90 ∷ 0xC8 ∷ 0x64 ∷ 0x32 ∷ 0x19 ∷ 0x0C ∷ 0x86 ∷ 0x43 ∷ [])
     ∷ codes [] []
-    ∷ refuses (0x90 ∷ 0x95 ∷ []) 5 0
-    ∷ refuses (0xEA ∷ 0x54 ∷ []) 7 0
-    ∷ refuses (0x6A ∷ 0x55 ∷ []) 4 0
+    ∷ refuses (0x90 ∷ 0x95 ∷ []) (5 at 0)
+    ∷ refuses (0xEA ∷ 0x54 ∷ []) (7 at 0)
+    ∷ refuses (0x6A ∷ 0x55 ∷ []) (4 at 0)
     ∷ frames 0 [] 0 3 3 50
     ∷ []
 
--- these have no star
+-- these have no star [16.2]
 abbrev pub ofBounds : List Case
 ofBounds =
-    bounds 0x555 1 (0 ∷ 61 ∷ 65 ∷ [])
-    ∷ bounds 0x555 7 (0 ∷ 108 ∷ 112 ∷ [])
-    ∷ bounds 0 1 (0 ∷ 63 ∷ 67 ∷ [])
-    ∷ bounds 2048 0 (8 ∷ 0 ∷ [])
+    bounds 0x555 1 (given 61 65)
+    ∷ bounds 0x555 7 (given 108 112)
+    ∷ bounds 0 1 (given 63 67)
+    ∷ bounds 2048 0 (8 at 0)
     ∷ []
 
--- what the definitions give in a case, and what the document says
-abbrev pub found : Case → List ℕ
-found (codes payload field) = fieldOf payload
-found (refuses field number place) = answerNumbers (decodeAnswer field 7)
-found (frames identifier payload check inHeader inCrc bits) =
+-- the table by size, as it is printed [3.7]
+abbrev pub bySize : List Case
+bySize =
+    row 0 0 [] 0 0
+    ∷ row 1 2 (1 ∷ []) 9 6
+    ∷ row 2 3 (0 ∷ []) 18 5
+    ∷ row 3 4 (1 ∷ []) 27 4
+    ∷ row 4 5 (0 ∷ []) 36 3
+    ∷ row 5 6 (1 ∷ []) 45 2
+    ∷ row 6 7 (0 ∷ []) 54 1
+    ∷ row 7 8 (1 ∷ []) 63 0
+    ∷ []
+
+-- what the definitions give is what the document says [16.1, 16.2]
+abbrev pub Right : Case → Type 0
+Right (codes payload field) = fieldOf payload ≡ field
+Right (refuses field numbers) = answerNumbers (decodeAnswer field 7) ≡ numbers
+Right (frames identifier payload check inHeader inCrc bits) =
     let headerBits = header identifier (length (fieldOf payload)) in
     let dataBits = unpacked 8 (fieldOf payload) in
-    crc (headerBits ++ dataBits) ∷ afterHeader headerBits dataBits ∷ afterCrc headerBits dataBits ∷ answerNumbers (lengthAnswer identifier payload)
-found (bounds identifier size numbers) = boundsNumbers (boundsAnswer identifier size)
+    (crc (headerBits ++ dataBits) ≡ check) × (afterHeader headerBits dataBits ≡ inHeader) × (afterCrc headerBits dataBits ≡ inCrc)
+    × (answerNumbers (lengthAnswer identifier payload) ≡ given bits 0)
+Right (bounds identifier size numbers) = boundsNumbers (boundsAnswer identifier size) ≡ numbers
+Right (row size n break words padding) =
+    (fieldBytes size ≡ n) × (breakBit n ≡ break) × (9 * size ≡ words) × (paddingBits size ≡ padding)
 
-abbrev pub said : Case → List ℕ
-said (codes payload field) = field
-said (refuses field number place) = number ∷ place ∷ []
-said (frames identifier payload check inHeader inCrc bits) = check ∷ inHeader ∷ inCrc ∷ 0 ∷ bits ∷ []
-said (bounds identifier size numbers) = numbers
+abbrev pub AllRight : List Case → Type 0
+AllRight [] = Unit {0}
+AllRight (c ∷ l) = Right c × AllRight l

@@ -1,2 +1,4 @@
 pub mod Settled
 pub mod Cases
+pub mod Ends
+pub mod Runs

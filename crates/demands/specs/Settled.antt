@@ -3,14 +3,8 @@
 use mathlib.Core.Path.{_≡_}
 use mathlib.Core.List.{List}
 use Prim.Native.Nat.{ℕ, _<_}
-use lib.ListN.{getD}
-use Rattle.refusals.specs.Table.{answerNumbers}
-use Rattle.refusals.specs.declared.Answer.{Answer}
 
--- the number of the refusal that an answer is, 0 for none: the first of the document's numbers
-abbrev pub refusalNumber : Answer → ℕ
-refusalNumber a = getD (answerNumbers a) 0 0
-
+-- of a contract that asks and allows this [7.2, 7.7]
 module _ {Inputs Answers Exit : Type 0} (asks : Inputs → Type 0) (allows : Inputs → Answers → Exit → Type 0) where
   -- of a call that is lent no buffer to write
   pub record Settled : Type 0 where
