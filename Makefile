@@ -12,7 +12,8 @@ help:
 	@echo 'make lib    prove and build the library for C: libprushgoli.a, prushgoli.h and prushgoli.pc in build/'
 	@echo 'make install [PREFIX=/usr/local] [DESTDIR=]   install these three'
 	@echo 'make test   run every test and prove every crate from nothing; the last line is: N passed, 0 failed'
-	@echo 'make evidence   a page of runs for the inspector, build/evidence/index.html; runs the gate where its record is old'
+	@echo 'make evidence   two pages for the inspector, in build/evidence/: index.html, runs and what the gate found, and'
+	@echo '            definitions.html, the rules of the format beside the definitions; runs the gate where its record is old'
 	@echo 'make bench  count the instructions of each call, beside those of a plain C implementation'
 	@echo 'make can-fail   show that the tests notice faults'
 	@echo 'make clean  remove build/; what rt has proved stays'
@@ -23,7 +24,7 @@ rt = command -v rt >/dev/null || { echo 'make $@: the Rattle toolchain is missin
 keep = 2>&1 | tee build/gate
 
 # What needs no proof comes first. `rt ci` removes target/ and proves everything from nothing; the library and the program
-# are then built from what it left, not proved a second time. evidence/build makes the page and has tests/evidence check it.
+# are then built from what it left, not proved a second time. evidence/build makes the pages and has tests/evidence check them.
 # The closing line of `rt ci` is the gate's: it is said again at the end.
 test: SHELL = /bin/bash -o pipefail
 test:
@@ -48,12 +49,13 @@ test:
 	evidence/build
 	@tail -n 1 build/gate/ci
 
-# The page is made anew each time: it names the commit, of which make knows nothing.
+# The pages are made anew each time: they name the commit, of which make knows nothing.
 evidence: build/gate/end lib
 	@evidence/build
 	@echo build/evidence/index.html
+	@echo build/evidence/definitions.html
 
-# Has the time at which the gate began. The gate makes the page itself, not by these rules, so that it never starts itself.
+# Has the time at which the gate began. The gate makes the pages itself, not by these rules, so that it never starts itself.
 # A trace is left out: it would be made anew from its .hex, and be newer than the gate.
 build/gate/end: $(filter-out %.trace,$(shell evidence/tested folders))
 	@echo 'make evidence: there is no record of the gate on these sources; it runs first, thirteen to twenty minutes' >&2

@@ -1,12 +1,10 @@
 """The part of the page on the gate."""
 from html import escape
 
-STEPS = {"total": "Every callable function", "documents": "INSPECTION.md and PROMISES.md", "header": "The header for C",
+from sources import rows_of
+
+STEPS = {"total": "Every callable function", "documents": "INSPECTION.md, PROMISES.md, FORMAT.md", "header": "The header for C",
          "archive": "The archive", "example": "The example in C", "first": "The first report"}
-
-
-def rows_of(pairs):
-    return "\n".join(f'<tr><th scope="row">{name}</th><td>{value}</td></tr>' for name, value in pairs)
 
 
 def crates_table(gate):

@@ -5,21 +5,14 @@ Usage: page.py GATE-FOLDER SOURCE-FACTS RUNS. What is missing in them ends it wi
 import sys
 from datetime import datetime, timezone
 from html import escape
-from pathlib import Path
 
 from gate import Gate
-from gate_section import gate_section, rows_of
-from reading import Missing, fact, facts, require
+from gate_section import gate_section
+from reading import Missing, require
 from runs import Runs
 from sections import lengths_section, timetable_section, words_section
-
-
-def tree(changed):
-    if changed == "unknown":
-        return "not known: the sources stood in no git repository"
-    if changed == "0":
-        return "no uncommitted changes"
-    return f'<strong class="warning">{escape(changed)} files differed from the commit</strong>'
+from shell import document
+from sources import commit_rows, read_source, rows_of, tree
 
 
 def duration(seconds):
@@ -29,10 +22,7 @@ def duration(seconds):
 def identity(source, gate):
     began = datetime.fromtimestamp(int(gate.begin["time"]), timezone.utc)
     same = "the same commit" if gate.begin["commit"] == source["commit"] else f'commit {escape(gate.begin["commit"])}'
-    return rows_of([
-        ("Commit", f'<code id="commit">{escape(source["commit"])}</code>'),
-        ("Its date", escape(source["committed"])),
-        ("Tree, when this page was made", tree(source["changed"])),
+    return rows_of(commit_rows(source) + [
         ("Tree, when the gate ran", f'{same}, {tree(gate.begin["changed"])}'),
         ("Files that the gate tests", f'{escape(gate.begin["files"])}, the same in both trees; SHA-256 over all of them: '
                                       f'<code>{escape(gate.begin["sum"])}</code>'),
@@ -43,18 +33,7 @@ def identity(source, gate):
 
 
 def page(gate, source, runs):
-    style = (Path(__file__).parent / "page.css").read_text(encoding="utf-8")
-    return f"""<!DOCTYPE html>
-<html lang="en">
-<head>
-<meta charset="utf-8"/>
-<meta name="viewport" content="width=device-width"/>
-<title>Prushgoli: evidence</title>
-<style>
-{style}</style>
-</head>
-<body>
-<header>
+    return document("Prushgoli: evidence", ["base.css", "page.css"], f"""<header>
 <h1>Prushgoli: evidence</h1>
 <p>Prushgoli codes payloads for a CAN bus in 8B9B, by document 01. This page shows runs of its library, the archive that C firmware
 links, and what the gate found. Every number of a run was computed when the page was made, or read from the gate’s record. The page
@@ -67,16 +46,11 @@ docs/PROMISES.md.</p>
 {gate_section(gate)}
 {words_section(runs)}
 {timetable_section(runs)}
-{lengths_section(runs)}
-</body>
-</html>
-"""
+{lengths_section(runs)}""")
 
 
 def main(gate_folder, source_path, runs_path):
-    source = facts(source_path)
-    for name in ("commit", "committed", "changed", "sum"):
-        fact(source, name, source_path)
+    source = read_source(source_path)
     gate = Gate(gate_folder)
     require(gate.begin["sum"] == source["sum"], f"{gate_folder}: the gate ran on other sources; make test runs it on these")
     sys.stdout.reconfigure(encoding="utf-8")

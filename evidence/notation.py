@@ -1,0 +1,55 @@
+"""The words of a definition that are not the project's own: the prover's language, its library, and what src/ declares."""
+from definitions.scope import TOKEN
+
+NOTATION = (
+    ("f x y", "f of x and y"),
+    ("f : A → B → C", "f takes an A and a B and gives a C"),
+    ("infix 20 _at_", "x at y is short for _at_ x y"),
+    ("f p = e", "what f gives where p fits what it is given; its lines are tried from the first"),
+    ("abbrev unfoldable pub", "say how the prover treats a definition; for a reader they say nothing"),
+    ("ℕ", "the numbers 0, 1, 2 and so on, of any size; 0x4599 is one in hex"),
+    ("zero, suc n", "0, and n + 1"),
+    ("a + b, a * b, a ^ b", "sum, product, a to the power b"),
+    ("a - b", "the difference; it stops at 0: 3 - 5 is 0"),
+    ("a / b, a % b", "the whole quotient, and the remainder"),
+    ("min a b", "the smaller of the two"),
+    ("Bool, true, false", "a yes or a no"),
+    ("not, &&, ||", "not, and, or"),
+    ("eqb a b, ltb a b, leb a b", "whether a equals b, is less than b, is at most b"),
+    ("cond t a b", "a where t is true, else b"),
+    ("let x = e in", "where x is e"),
+    ("λ x. e", "the function that makes e of x"),
+    ("List A", "a row of A: a payload, a field, a line is a List ℕ"),
+    ("[], x ∷ l", "the empty list; x, and behind it the list l"),
+    ("l ++ m", "l, and behind it m"),
+    ("length l", "how many l has"),
+    ("take n l, drop n l", "the first n of l; what is behind them"),
+    ("getD l k d", "number k of l, counted from 0; d where l has none"),
+    ("set l k x", "l with x in place k"),
+    ("replicate n x", "n times x"),
+    ("map f l", "f of each in l"),
+    ("record { a = x; b = y }", "the struct with these fields"),
+    ("r .a", "the field a of r; of a pair .0 is the first part, .1 the rest"),
+    ("data T where", "a T is one of these; a name with → takes something along"),
+    ("record T where", "all of these together"),
+    ("module _ (x : A) where", "what follows is said for each x"),
+    ("(x : A) → B", "B for each x of A"),
+    ("A → B", "of statements: if A, then B"),
+    ("A × B, A ⊎ B", "A and B; A or B"),
+    ("x ≡ y, x < y, x ≤ y", "equals; is less than; is at most"),
+    ("(x : A) × B, ∥ A ∥₁", "an x of A, and of it B; there is such a one"),
+    ("Type 0, Unit, ⊥", "a statement; the one that always holds; the one that never does"),
+    ("Memory, Val, Routine", "of the toolchain's machine: a memory, a value, the code of a call"),
+    ("done (v, σ)", "a run has ended, with this value and this memory"),
+    ("some (1, map byte l)", "a block of memory whose cells are the bytes of l"),
+    ("sliceVal (b, 0) n", "the value for a slice: n cells from the start of block b"),
+    ("enum, struct", "of src/: one of these variants; these fields together"),
+    ("u8, u32, u64, usize", "a number of so many bits; usize has 64"),
+    ("«a_b»", "the name a_b of src/"),
+    ("--, //", "a remark"),
+)
+
+
+def explained():
+    """All words that the signs have."""
+    return {word for signs, _ in NOTATION for word in TOKEN.findall(signs)}
