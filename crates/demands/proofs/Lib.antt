@@ -15,6 +15,7 @@ pub mod Between
 pub mod Demand2
 pub mod Demand3
 pub mod RoundTrips
+pub mod BackEnds
 pub mod AcceptedIsCoded
 pub mod LentBytes
 pub mod WrongPrograms
