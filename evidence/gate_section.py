@@ -3,7 +3,7 @@ from html import escape
 
 from sources import rows_of
 
-STEPS = {"total": "Every callable function", "documents": "INSPECTION.md, PROMISES.md, FORMAT.md", "header": "The header for C",
+STEPS = {"total": "Every callable function", "documents": "The papers in docs/", "header": "The header for C",
          "archive": "The archive", "example": "The example in C", "first": "The first report"}
 
 
