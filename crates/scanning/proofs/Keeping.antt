@@ -24,11 +24,11 @@ use Rattle.bits.specs.Stuffing.{counted}
 use Rattle.refusals.specs.declared.Refusal.the-variants.{LineByte, StuffBit, LineLength, FixedBit}
 use Rattle.scanning.specs.Form.{form, fits}
 use Rattle.scanning.specs.Scan.{dlcIn, complete, crcStart, stuffDue, mustBe, Verdict, right, shown, verdict, runWith, frameWith, Scanned, stopped, onward, scan, scanned}
-use Rattle.scanning.specs.Steps.{rowsOf, least, bitAt, behindStuffBit, oneOn, behindBit, behindEnding, dueIn, stuffBit, passed, judgedBit, fieldBit, endingBit, andThen, lineBit}
+use Rattle.scanning.specs.Steps.{rowsOf, least, bitAt, behindStuffBit, oneOn, dueIn, stuffBit, passed, judgedBit, fieldBit, endingBit, andThen, lineBit}
 use Rattle.scanning.specs.declared.seen.Seen.{Seen}
 use Rattle.scanning.specs.declared.seen.Step.{Step}
 use Rattle.scanning.specs.declared.seen.Step.the-variants.{Next, Refused}
-use Rattle.scanning.proofs.Positions.{rowAt, startOf, endOf, data-from, ending-from, header-end, data-end, crc-end, end-within, early-or-known, must-is, dueAt, due-is, not-complete}
+use Rattle.scanning.proofs.Positions.{rowAt, startOf, endOf, data-from, ending-from, header-end, data-end, crc-end, end-within, early-or-known, must-is, due-is, not-complete}
 use Rattle.scanning.proofs.RawBits.{Tells, five-told, bit-told, told-more, told-stuff}
 use Rattle.scanning.proofs.Registers.{Registers, in-header, in-data, in-crc, behind, bit-added, ending-added, longer, data-length, crc-length, dlc-known}
 use Rattle.scanning.proofs.Verdicts.{byte-above-1, sixth-bit, stuff-bit, fixed-bit, frame-bit, nothing-shown}
