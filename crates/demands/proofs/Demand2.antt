@@ -6,7 +6,7 @@
 --     byte-carried     byte x is carried by the word at place x + 1, and by no other nine bits
 --     rule-exactly     nine bits stand for nothing, no byte and no escape, exactly when they do not keep the rule
 --     field-bits       a field is the break bit, the words in payload order, and padding
---     frame-bits       a frame is header, field and CRC, stuffed but for the last CRC bit, and ten bits 1
+--     frame-bits       a frame is header, field and CRC, stuffed to the last CRC bit, and ten bits 1
 --     field-left       given room, encoding leaves the field at the start of a lent buffer, and behind it the old bytes
 --     line-left        and making a frame the line
 --     field-back       what encoding leaves in a lent buffer decodes to the payload, into another
@@ -18,7 +18,7 @@ use mathlib.Core.Bool.{false}
 use mathlib.Core.Logic.{_↔_}
 use lib.Dec.{T}
 use mathlib.Core.List.{List, [], _∷_, _++_, map}
-use Prim.Native.Nat.{ℕ, _+_, _/_, _%_, _≤_, _<_}
+use Prim.Native.Nat.{ℕ, _+_, _≤_, _<_}
 use lib.ListN.{length, getD, take, drop, replicate}
 use lib.Seq.{take-at}
 use Rattle.bits.specs.Below.{Below}
@@ -89,7 +89,7 @@ pub frame-bits : (identifier : ℕ) (payload : List ℕ) → length payload ≤ 
     let headerBits = header identifier (fieldBytes (length payload)) in
     let check = crc (headerBits ++ fieldBits payload) in
     payloadLine identifier payload
-    ≡ stuffed nothingSent (headerBits ++ (fieldBits payload ++ bits 14 (check / 2))) ++ ((check % 2) ∷ replicate 10 1)
+    ≡ stuffed nothingSent (headerBits ++ (fieldBits payload ++ bits 15 check)) ++ replicate 10 1
 frame-bits = frame-is
 
 -- ---- given room, each payload of 0 to 7 bytes comes back

@@ -1,7 +1,8 @@
 -- Document 01's worked cases that are to be proved, those marked *, as one statement over one list; those of bounds, which have no star;
--- and its table by size. Assumes nothing.
+-- its table by size; and the cases of change request #102. Assumes nothing.
 --     starred-right    what the definitions give in each case is what the document says
 --     bounds-right     the same of the bounds
+--     stuffed-crc-right    of frames whose CRC draws a stuff bit behind its last bit
 --     table-right      and of the eight rows of the table
 use mathlib.Core.Path.{refl}
 use Rattle.bits.specs.Rows.{bits, number}
@@ -19,7 +20,7 @@ use Rattle.frame.specs.Header.{header}
 use Rattle.frame.specs.Line.{crcBits, stuffedRow, lineOf, frameLine}
 use Rattle.frame.specs.StuffBits.{stuffBitsIn, headerStuffBits}
 use Rattle.frame.specs.Answers.{lengthAnswer, boundsAnswer}
-use Rattle.demands.specs.Cases.{starred, ofBounds, bySize, AllRight}
+use Rattle.demands.specs.Cases.{starred, ofBounds, ofStuffedCrc, bySize, AllRight}
 
 -- a case, and the others behind it
 infixr 5 _and_
@@ -34,6 +35,10 @@ starred-right =
 pub bounds-right : AllRight ofBounds
 unfolding bits stuffAfter runAfter stuffCount header headerStuffBits boundsAnswer
 bounds-right = refl and refl and refl and refl and tt
+
+pub stuffed-crc-right : AllRight ofStuffedCrc
+unfolding bits number unpacked packed equalNeighbours words wordOf padding fieldBits fieldOf stuffAfter runAfter stuffed stuffCount runAfterRow header xor divide remainder crc crcBits stuffedRow lineOf frameLine stuffBitsIn lengthAnswer
+stuffed-crc-right = (refl, refl, refl, refl) and refl and (refl, refl, refl, refl) and refl and (refl, refl, refl, refl) and tt
 
 pub table-right : AllRight bySize
 table-right = (refl, refl, refl, refl) and (refl, refl, refl, refl) and (refl, refl, refl, refl) and (refl, refl, refl, refl) and (refl, refl, refl, refl) and (refl, refl, refl, refl) and (refl, refl, refl, refl) and (refl, refl, refl, refl) and tt

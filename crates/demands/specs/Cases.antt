@@ -1,9 +1,9 @@
--- Document 01's worked cases: those marked *, those of bounds, and its table by size. What the document says, beside what the
--- definitions give: evidence for these, and nothing to believe. Assumes nothing.
+-- Document 01's worked cases: those marked *, those of bounds, and its table by size; and those of change request #102. What is said on
+-- paper, beside what the definitions give: evidence for these, and nothing to believe. Assumes nothing.
 use mathlib.Core.Path.{_≡_}
 use mathlib.Core.List.{List, [], _∷_, _++_}
 use Prim.Native.Nat.{ℕ, _*_}
-use lib.ListN.{length}
+use lib.ListN.{length, drop, replicate}
 use Rattle.bits.specs.Packing.{unpacked}
 use Rattle.refusals.specs.Table.{Numbers, given, _at_, answerNumbers}
 use Rattle.field.specs.Sizes.{fieldBytes, breakBit, paddingBits}
@@ -12,15 +12,16 @@ use Rattle.decoding.specs.Decode.{decodeAnswer}
 use Rattle.crc.specs.Crc.{crc}
 use Rattle.frame.specs.Header.{header}
 use Rattle.frame.specs.StuffBits.{afterHeader, afterCrc}
-use Rattle.frame.specs.Answers.{lengthAnswer, boundsAnswer, boundsNumbers}
+use Rattle.frame.specs.Answers.{payloadLine, lengthAnswer, boundsAnswer, boundsNumbers}
 
 -- a payload codes as a field; a field decodes, with room for seven bytes, to a refusal; the frame of an identifier and a payload has a
--- CRC, so many stuff bits in the header and in the CRC, and so many bits; asking for the bounds of an identifier and a size is answered
--- so; a payload's size has, in the table, field bytes, break bit, word bits and padding bits [16.1]
+-- CRC, so many stuff bits in the header and in the CRC, and so many bits; its line has these bits from a place on; asking for the bounds
+-- of an identifier and a size is answered so; a payload's size has, in the table, field bytes, break bit, word bits and padding bits [16.1]
 pub data Case : Type 0 where
   codes : List ℕ → List ℕ → Case
   refuses : List ℕ → Numbers → Case
   frames : ℕ → List ℕ → ℕ → ℕ → ℕ → ℕ → Case
+  ends : ℕ → List ℕ → ℕ → List ℕ → Case
   bounds : ℕ → ℕ → Numbers → Case
   row : ℕ → ℕ → List ℕ → ℕ → ℕ → Case
 
@@ -52,6 +53,16 @@ ofBounds =
     ∷ bounds 2048 0 (8 at 0)
     ∷ []
 
+-- a CRC that ends in five 1s, and one that ends in five 0s: behind the five, at place 54, the stuff bit; the longest frame [16.4]
+abbrev pub ofStuffedCrc : List Case
+ofStuffedCrc =
+    frames 0 (0x77 ∷ []) 0x07DF 3 2 65
+    ∷ ends 0 (0x77 ∷ []) 49 (replicate 5 1 ++ (0 ∷ replicate 10 1))
+    ∷ frames 0 (0x5F ∷ []) 0x7E20 3 2 65
+    ∷ ends 0 (0x5F ∷ []) 49 (replicate 5 0 ++ (1 ∷ replicate 10 1))
+    ∷ frames 0 (0x00 ∷ 0x00 ∷ 0x00 ∷ 0x00 ∷ 0x00 ∷ 0x82 ∷ 0xA6 ∷ []) 0x70F0 3 4 115
+    ∷ []
+
 -- the table by size, as it is printed [3.7]
 abbrev pub bySize : List Case
 bySize =
@@ -65,7 +76,7 @@ bySize =
     ∷ row 7 8 (1 ∷ []) 63 0
     ∷ []
 
--- what the definitions give is what the document says [16.1, 16.2]
+-- what the definitions give is what the paper says [16.1, 16.2, 16.4]
 abbrev pub Right : Case → Type 0
 Right (codes payload field) = fieldOf payload ≡ field
 Right (refuses field numbers) = answerNumbers (decodeAnswer field 7) ≡ numbers
@@ -74,6 +85,7 @@ Right (frames identifier payload check inHeader inCrc bits) =
     let dataBits = unpacked 8 (fieldOf payload) in
     (crc (headerBits ++ dataBits) ≡ check) × (afterHeader headerBits dataBits ≡ inHeader) × (afterCrc headerBits dataBits ≡ inCrc)
     × (answerNumbers (lengthAnswer identifier payload) ≡ given bits 0)
+Right (ends identifier payload place bits) = drop place (payloadLine identifier payload) ≡ bits
 Right (bounds identifier size numbers) = boundsNumbers (boundsAnswer identifier size) ≡ numbers
 Right (row size n break words padding) =
     (fieldBytes size ≡ n) × (breakBit n ≡ break) × (9 * size ≡ words) × (paddingBits size ≡ padding)

@@ -12,7 +12,7 @@ use mathlib.Core.Path.{_≡_, ap, ap₂, _∙_}
 use mathlib.Core.List.{List, [], _∷_, _++_}
 use Prim.Native.Nat.{ℕ, zero, suc, _+_, _*_, _/_, _%_, _^_, _≤_}
 use native.Mathlib.Omega.{arith}
-use lib.ListN.{length, take, length-take}
+use lib.ListN.{length, take}
 use Rattle.bits.specs.Below.{Below}
 use Rattle.bits.specs.Rows.{bits}
 use Rattle.bits.specs.Packing.{unpacked}
@@ -24,12 +24,12 @@ use Rattle.field.specs.Field.{fieldOf}
 use Rattle.field.proofs.FieldBits.{field-length, bits-of-field}
 use Rattle.field.proofs.FieldCalm.{quiet-behind-dlc}
 use Rattle.frame.specs.Header.{header}
-use Rattle.frame.specs.Line.{crcBits, stuffedCrcBits, lineOf, frameLine}
+use Rattle.frame.specs.Line.{crcBits, lineOf, frameLine}
 use Rattle.frame.specs.StuffBits.{afterHeader, afterData, afterCrc, headerStuffBits}
 use Rattle.frame.specs.Answers.{payloadLine}
 use Rattle.frame.proofs.HeaderBits.{header-length}
 use Rattle.frame.proofs.HeaderStuff.{header-four, header-three}
-use Rattle.frame.proofs.LineParts.{headerRun, dataRun, crcFront, line-length, after-header, after-data, after-crc}
+use Rattle.frame.proofs.LineParts.{headerRun, dataRun, crc-length, line-length, after-header, after-data, after-crc}
 
 module _ (headerBits dataBits : List ℕ) where
   run-few : dataRun headerBits dataBits .count ≤ 4
@@ -39,13 +39,12 @@ module _ (headerBits dataBits : List ℕ) where
 
   pub crc-four : afterCrc headerBits dataBits ≤ 4
   crc-four =
-      let front = crcFront headerBits dataBits in
       omega (
         arith,
         after-crc headerBits dataBits,
         run-few,
-        stuff-weight (dataRun headerBits dataBits) front run-few .0,
-        length-take stuffedCrcBits (crcBits headerBits dataBits),
+        stuff-weight (dataRun headerBits dataBits) (crcBits headerBits dataBits) run-few .0,
+        crc-length headerBits dataBits,
       )
 
   pub line-counts : length (lineOf headerBits dataBits)

@@ -1,5 +1,4 @@
 pub mod HeaderBits
-pub mod CrcBits
 pub mod FourBits
 pub mod Quiet
 pub mod Written

@@ -2,15 +2,14 @@
 --     stuffCount-three    the stuff bits of three rows one behind the other, from the start of frame
 --     line-length     a line's bits are those of its parts and the stuff bits
 --     after-header, after-data, after-crc    the stuff bits that follow bits of a part, by the part alone and the run before it
---     line-sent       a line as the code sends it: fourteen CRC bits with what goes before them, then eleven bits as they are
---     line-parts      and in two parts, of which the second follows the data field
+--     line-parts      a line in two parts, of which the second follows the data field
 --     crc-of-parts    the CRC of a frame's parts is that of the header and the data field that its DLC announces, and has 15 bits
 --     quiet-length    how many bits the line of a frame's parts has, where no data bit draws a stuff bit
 use mathlib.Core.Path.{_≡_, refl, sym, ap, ap₂, _∙_, subst}
 use mathlib.Core.List.{List, _++_, append-assoc}
-use Prim.Native.Nat.{ℕ, _+_, _*_, _/_, _%_, _^_, _≤_, _<_}
+use Prim.Native.Nat.{ℕ, _+_, _*_, _%_, _^_, _<_}
 use native.Mathlib.Omega.{arith}
-use lib.ListN.{length, take, drop, length-append, length-take, length-drop}
+use lib.ListN.{length, take, drop, length-append}
 use lib.Seq.{take-at, drop-at, take-all}
 use Rattle.bits.specs.declared.Run.{Run}
 use Rattle.bits.specs.Rows.{bits}
@@ -21,12 +20,11 @@ use Rattle.crc.specs.Crc.{crc}
 use Rattle.crc.specs.Dlc.{dataBytes}
 use Rattle.crc.proofs.Dlc.{data-bytes}
 use Rattle.crc.proofs.Division.{crc-below}
-use Rattle.frame.specs.Line.{crcBits, stuffedCrcBits, stuffedRow, lineOf}
+use Rattle.frame.specs.Line.{crcBits, stuffedRow, ending, lineOf}
 use Rattle.frame.specs.StuffBits.{stuffBitsIn, afterHeader, afterData, afterCrc}
 use Rattle.frame.specs.Writing.{tailRow}
 use Rattle.frame.specs.Parts.{headerBits, dataBits, Fit, lineIn}
 use Rattle.frame.specs.declared.parts.Parts.{Parts}
-use Rattle.frame.proofs.CrcBits.{crc-stuffed, crc-plain}
 
 -- the runs that header and data bits leave
 abbrev pub headerRun : List ℕ → Run
@@ -40,9 +38,8 @@ pub stuffCount-three : (l m n : List ℕ)
 stuffCount-three l m n = simp stuffCount-append
 
 module _ (headerBits dataBits : List ℕ) where
-  -- the CRC bits that are stuffed
-  abbrev pub crcFront : List ℕ
-  crcFront = take stuffedCrcBits (crcBits headerBits dataBits)
+  abbrev check : List ℕ
+  check = crcBits headerBits dataBits
 
   pub crc-length : length (crcBits headerBits dataBits) ≡ 15
   unfolding crcBits
@@ -50,17 +47,11 @@ module _ (headerBits dataBits : List ℕ) where
 
   pub line-length : length (lineOf headerBits dataBits)
       ≡ length headerBits + length dataBits + 25
-      + (stuffCount nothingSent headerBits + (stuffCount (headerRun headerBits) dataBits + stuffCount (dataRun headerBits dataBits) crcFront))
+      + (stuffCount nothingSent headerBits + (stuffCount (headerRun headerBits) dataBits + stuffCount (dataRun headerBits dataBits) check))
   unfolding lineOf stuffedRow
   line-length =
       simp (length-append, stuffed-length)
-      (omega (
-        arith,
-        stuffCount-three headerBits dataBits crcFront,
-        crc-length,
-        length-take stuffedCrcBits (crcBits headerBits dataBits),
-        length-drop stuffedCrcBits (crcBits headerBits dataBits),
-      ))
+      (omega (arith, stuffCount-three headerBits dataBits check, crc-length))
 
   pub after-header : afterHeader headerBits dataBits ≡ stuffCount nothingSent headerBits
   unfolding stuffBitsIn stuffedRow runAfterRow
@@ -69,43 +60,31 @@ module _ (headerBits dataBits : List ℕ) where
   pub after-data : afterData headerBits dataBits ≡ stuffCount (headerRun headerBits) dataBits
   unfolding stuffBitsIn stuffedRow
   after-data =
-      let rest = dataBits ++ crcFront in
+      let rest = dataBits ++ check in
       ap₂ (λ (l m : List ℕ). stuffCount (runAfterRow nothingSent l) m) (take-at headerBits rest _ refl)
       (ap (take (length dataBits)) (drop-at headerBits rest _ refl) ∙ take-at dataBits _ _ refl)
 
-  pub after-crc : afterCrc headerBits dataBits ≡ stuffCount (dataRun headerBits dataBits) crcFront
+  pub after-crc : afterCrc headerBits dataBits ≡ stuffCount (dataRun headerBits dataBits) check
   unfolding stuffBitsIn stuffedRow
   after-crc =
       let before = headerBits ++ dataBits in
       let n = length headerBits + length dataBits in
-      let joined = sym (append-assoc headerBits dataBits crcFront) in
+      let joined = sym (append-assoc headerBits dataBits check) in
       let long = length-append headerBits dataBits in
-      let few : length crcFront ≤ 15 = omega (arith, length-take stuffedCrcBits (crcBits headerBits dataBits)) in
       ap₂ stuffCount
-      (ap (runAfterRow nothingSent) (ap (take n) joined ∙ take-at before crcFront n long) ∙ runAfterRow-append nothingSent headerBits dataBits)
-      (ap (take 15) (ap (drop n) joined ∙ drop-at before crcFront n long) ∙ take-all 15 crcFront few)
-
-pub line-sent : (headerBits dataBits : List ℕ) →
-    let x = crc (headerBits ++ dataBits) in
-    lineOf headerBits dataBits
-    ≡ stuffed nothingSent (headerBits ++ (dataBits ++ bits 14 (x / 2))) ++ bits 11 (x % 2 * 1024 + 1023)
-unfolding lineOf stuffedRow crcBits
-line-sent headerBits dataBits =
-    let x = crc (headerBits ++ dataBits) in
-    ap₂ (λ (l m : List ℕ). stuffed nothingSent (headerBits ++ (dataBits ++ l)) ++ m) (sym (crc-stuffed x)) (sym (crc-plain x))
+      (ap (runAfterRow nothingSent) (ap (take n) joined ∙ take-at before check n long) ∙ runAfterRow-append nothingSent headerBits dataBits)
+      (ap (take 15) (ap (drop n) joined ∙ drop-at before check n long) ∙ take-all 15 check (omega (arith, crc-length)))
 
 pub line-parts : (headerBits dataBits : List ℕ) →
     let x = crc (headerBits ++ dataBits) in
     lineOf headerBits dataBits ≡ stuffed nothingSent (headerBits ++ dataBits) ++ tailRow (runAfterRow nothingSent (headerBits ++ dataBits)) x
+unfolding lineOf stuffedRow crcBits
 line-parts headerBits dataBits =
-    let x = crc (headerBits ++ dataBits) in
     let before = headerBits ++ dataBits in
-    let check = bits 14 (x / 2) in
-    let rest = bits 11 (x % 2 * 1024 + 1023) in
-    line-sent headerBits dataBits
-    ∙ ap (λ (l : List ℕ). stuffed nothingSent l ++ rest) (sym (append-assoc headerBits dataBits check))
-    ∙ ap (λ (l : List ℕ). l ++ rest) (stuffed-append nothingSent before check)
-    ∙ append-assoc (stuffed nothingSent before) (stuffed (runAfterRow nothingSent before) check) rest
+    let check = bits 15 (crc before) in
+    ap (λ (l : List ℕ). stuffed nothingSent l ++ ending 1) (sym (append-assoc headerBits dataBits check))
+    ∙ ap (λ (l : List ℕ). l ++ ending 1) (stuffed-append nothingSent before check)
+    ∙ append-assoc (stuffed nothingSent before) (stuffed (runAfterRow nothingSent before) check) (ending 1)
 
 pub crc-of-parts : (p : Parts) (r : ℕ) → Fit p → r ≡ crc (headerBits p ++ bits (8 * dataBytes (p .header % 16)) (p .field))
     → (r ≡ crc (headerBits p ++ dataBits p)) × (r < 2 ^ 15)
@@ -116,16 +95,13 @@ crc-of-parts p r fit e =
 pub quiet-length : (p : Parts) → Fit p →
     let x = crc (headerBits p ++ dataBits p) in
     length (lineIn p)
-    ≡ 44 + 8 * p .n + (stuffCount nothingSent (headerBits p) + stuffCount (dataRun (headerBits p) (dataBits p)) (bits 14 (x / 2)))
+    ≡ 44 + 8 * p .n + (stuffCount nothingSent (headerBits p) + stuffCount (dataRun (headerBits p) (dataBits p)) (bits 15 x))
 unfolding crcBits
 quiet-length p fit =
-    let x = crc (headerBits p ++ dataBits p) in
-    let check = ap (stuffCount (dataRun (headerBits p) (dataBits p))) (crc-stuffed x) in
     omega (
       arith,
       line-length (headerBits p) (dataBits p),
       bits-length 19 (p .header),
       bits-length (8 * p .n) (p .field),
       fit .quiet,
-      check,
     )

@@ -1,6 +1,6 @@
 -- The line of a payload's frame. Assumes nothing.
---     frame-is      said anew, from the sizes, the field's bits and the CRC's number: fourteen CRC bits are stuffed, the fifteenth and
---                   the ten bits 1 behind it are not
+--     frame-is      said anew, from the sizes, the field's bits and the CRC's number: all is stuffed to the last CRC bit, and the ten
+--                   bits 1 behind it are not
 --     ack-in-place  where the ACK slot stands among these
 --     line-below    each of its bytes is 0 or 1
 --     coded-few     a coded field has at most eight bytes
@@ -8,13 +8,13 @@
 --     coded-line    its number behind a header's bits gives that line
 use mathlib.Core.Path.{_≡_, refl, sym, ap, ap₂, _∙_, subst}
 use mathlib.Core.List.{List, [], _∷_, _++_}
-use Prim.Native.Nat.{ℕ, _*_, _/_, _%_, _≤_}
+use Prim.Native.Nat.{ℕ, _*_, _≤_}
 use lib.ListN.{length, take, drop, replicate}
 use Rattle.bits.specs.Below.{Below}
 use Rattle.bits.specs.Rows.{bits}
 use Rattle.bits.specs.Packing.{unpacked}
 use Rattle.bits.specs.Stuffing.{nothingSent, stuffed, stuffCount}
-use Rattle.bits.proofs.Below.{below-append, below-take, below-drop}
+use Rattle.bits.proofs.Below.{below-append}
 use Rattle.bits.proofs.Rows.{bits-below}
 use Rattle.bits.proofs.Packing.{unpacked-below, bits-unpacked}
 use Rattle.bits.proofs.Stuffing.{stuffed-below}
@@ -28,7 +28,6 @@ use Rattle.frame.specs.Header.{header}
 use Rattle.frame.specs.Line.{crcBits, stuffedRow, ending, lineOf, frameLine}
 use Rattle.frame.specs.Answers.{payloadLine}
 use Rattle.frame.proofs.HeaderBits.{header-below}
-use Rattle.frame.proofs.CrcBits.{crc-stuffed, crc-last}
 use Rattle.frame.proofs.LineParts.{headerRun, after-data}
 use Rattle.frame.proofs.Demand3.{data-none}
 
@@ -36,14 +35,9 @@ pub frame-is : (identifier : ℕ) (payload : List ℕ) → length payload ≤ 7 
     let headerBits = header identifier (fieldBytes (length payload)) in
     let check = crc (headerBits ++ fieldBits payload) in
     payloadLine identifier payload
-    ≡ stuffed nothingSent (headerBits ++ (fieldBits payload ++ bits 14 (check / 2))) ++ ((check % 2) ∷ replicate 10 1)
+    ≡ stuffed nothingSent (headerBits ++ (fieldBits payload ++ bits 15 check)) ++ replicate 10 1
 unfolding frameLine lineOf stuffedRow crcBits
-frame-is identifier payload short =
-    let headerBits = header identifier (fieldBytes (length payload)) in
-    let check = crc (headerBits ++ fieldBits payload) in
-    rw (field-length payload, bits-of-field payload short)
-    (ap₂ (λ (l m : List ℕ). stuffed nothingSent (headerBits ++ (fieldBits payload ++ l)) ++ (m ++ ending 1))
-    (sym (crc-stuffed check)) (crc-last check))
+frame-is identifier payload short = rw (field-length payload, bits-of-field payload short) refl
 
 pub ack-in-place : (ack : ℕ) → (take 1 (ending ack) ≡ 1 ∷ []) × (take 1 (drop 1 (ending ack)) ≡ ack ∷ []) × (drop 2 (ending ack) ≡ replicate 8 1)
 ack-in-place ack = (refl, refl, refl)
@@ -55,11 +49,11 @@ line-below identifier payload =
     let headerBits = header identifier n in
     let dataBits = unpacked 8 (fieldOf payload) in
     let check = bits 15 (crc (headerBits ++ dataBits)) in
-    below-append 2 (stuffed nothingSent (headerBits ++ (dataBits ++ take 14 check))) (drop 14 check ++ ending 1)
+    below-append 2 (stuffed nothingSent (headerBits ++ (dataBits ++ check))) (ending 1)
     (stuffed-below nothingSent _
     (below-append 2 headerBits _ (header-below identifier n)
-    (below-append 2 dataBits _ (unpacked-below 8 (fieldOf payload)) (below-take 2 14 check (bits-below 15 _)))))
-    (below-append 2 (drop 14 check) (ending 1) (below-drop 2 14 check (bits-below 15 _)) (bits-below 10 1023))
+    (below-append 2 dataBits _ (unpacked-below 8 (fieldOf payload)) (bits-below 15 _))))
+    (bits-below 10 1023)
 
 pub coded-few : (payload : List ℕ) (n v : ℕ) → IsField payload n v → n ≤ 8
 coded-few payload n v coded =

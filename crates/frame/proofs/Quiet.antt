@@ -2,7 +2,7 @@
 --     quiet-sent       such a row goes out as it is
 --     quiet-field      the run that a field leaves is that of its last four bits
 --     header-drawn, header-run-is, header-sent    of a header's stuff bits, run and bits the first three are told by themselves
---     check-drawn      the two bits behind the CRC's fourteen draw none; check-sent what goes out
+--     check-drawn, check-sent    the bit behind the CRC draws none; what goes out
 use mathlib.Core.Path.{_≡_, refl, sym, ap, ap₂, _∙_}
 use mathlib.Core.List.{List, [], _∷_, _++_}
 use Prim.Native.Nat.{ℕ, zero, suc, _+_, _-_, _*_, _/_, _%_, _^_, _≤_, _<_}
@@ -73,34 +73,37 @@ module _ (h : ℕ) (starts : h < 2 ^ 18) where
       ap (stuffed nothingSent) split ∙ stuffed-append nothingSent _ _
       ∙ ap₂ (λ (l : List ℕ) (r : Run). l ++ stuffed r (bits 16 h)) (start-row _ first) (start-run _ first)
 
--- a bit, its other and the bit again: the last two draw none
-pair-quiet : (r : Run) (b : ℕ) → b < 2 → stuffCount (runAfter r b) (bits 2 (2 - b)) ≡ 0
+-- behind a bit its other draws none
+other-quiet : (r : Run) (b : ℕ) → b < 2 → stuffCount (runAfter r b) (bits 1 (1 - b)) ≡ 0
 unfolding bits stuffCount
-pair-quiet r zero h =
-    omega (arith, other-calm r 0 (lit< tt) .no-stuff, other-calm (runAfter r 0) 1 (lit< tt) .no-stuff)
-pair-quiet r (suc zero) h =
-    omega (arith, other-calm r 1 (lit< tt) .no-stuff, other-calm (runAfter r 1) 0 (lit< tt) .no-stuff)
-pair-quiet r (suc (suc b)) h = absurd (omega arith)
+other-quiet r zero h = omega (arith, other-calm r 0 (lit< tt) .no-stuff)
+other-quiet r (suc zero) h = omega (arith, other-calm r 1 (lit< tt) .no-stuff)
+other-quiet r (suc (suc b)) h = absurd (omega arith)
 
 module _ (r : Run) (crc : ℕ) where
-  check-split : bits 16 (quietCheck crc) ≡ bits 14 (crc / 2) ++ bits 2 (2 - crc / 2 % 2)
+  other : List ℕ
+  other = bits 1 (1 - crc % 2)
+
+  check-split : bits 16 (quietCheck crc) ≡ bits 15 crc ++ other
+  unfolding other
   check-split =
-      let e : quietCheck crc ≡ crc / 2 * 2 ^ 2 + (2 - crc / 2 % 2) = omega arith in
-      ap (bits 16) e ∙ bits-join 14 2 (crc / 2) (2 - crc / 2 % 2) (omega arith)
+      let e : quietCheck crc ≡ crc * 2 ^ 1 + (1 - crc % 2) = omega arith in
+      ap (bits 16) e ∙ bits-join 15 1 crc (1 - crc % 2) (omega arith)
 
-  pair-draws-none : stuffCount (runAfterRow r (bits 14 (crc / 2))) (bits 2 (2 - crc / 2 % 2)) ≡ 0
-  unfolding bits runAfterRow
-  pair-draws-none =
-      let c : ℕ = crc / 2 in
-      let last : c / 2 ^ 0 % 2 ≡ c % 2 = omega arith in
-      ap (λ (q : Run). stuffCount q (bits 2 (2 - c % 2)))
-      (ap (runAfterRow r) (bits-split 13 1 c) ∙ runAfterRow-append r (bits 13 (c / 2)) (bits 1 c) ∙ ap (runAfter (runAfterRow r (bits 13 (c / 2)))) last)
-      ∙ pair-quiet (runAfterRow r (bits 13 (c / 2))) (c % 2) (omega arith)
+  other-draws-none : stuffCount (runAfterRow r (bits 15 crc)) other ≡ 0
+  unfolding bits runAfterRow other
+  other-draws-none =
+      let before : Run = runAfterRow r (bits 14 (crc / 2)) in
+      let last : crc / 2 ^ 0 % 2 ≡ crc % 2 = omega arith in
+      ap (λ (q : Run). stuffCount q other)
+      (ap (runAfterRow r) (bits-split 14 1 crc) ∙ runAfterRow-append r (bits 14 (crc / 2)) (bits 1 crc) ∙ ap (runAfter before) last)
+      ∙ other-quiet before (crc % 2) (omega arith)
 
-  pub check-drawn : stuffCount r (bits 16 (quietCheck crc)) ≡ stuffCount r (bits 14 (crc / 2))
-  check-drawn = omega (arith, ap (stuffCount r) check-split, stuffCount-append r (bits 14 (crc / 2)) (bits 2 (2 - crc / 2 % 2)), pair-draws-none)
+  pub check-drawn : stuffCount r (bits 16 (quietCheck crc)) ≡ stuffCount r (bits 15 crc)
+  check-drawn = omega (arith, ap (stuffCount r) check-split, stuffCount-append r (bits 15 crc) other, other-draws-none)
 
-  pub check-sent : stuffed r (bits 16 (quietCheck crc)) ≡ stuffed r (bits 14 (crc / 2)) ++ bits 2 (2 - crc / 2 % 2)
+  pub check-sent : stuffed r (bits 16 (quietCheck crc)) ≡ stuffed r (bits 15 crc) ++ bits 1 (1 - crc % 2)
+  unfolding other
   check-sent =
-      ap (stuffed r) check-split ∙ stuffed-append r (bits 14 (crc / 2)) (bits 2 (2 - crc / 2 % 2))
-      ∙ ap (λ (l : List ℕ). stuffed r (bits 14 (crc / 2)) ++ l) (quiet-sent _ _ pair-draws-none)
+      ap (stuffed r) check-split ∙ stuffed-append r (bits 15 crc) other
+      ∙ ap (λ (l : List ℕ). stuffed r (bits 15 crc) ++ l) (quiet-sent _ _ other-draws-none)

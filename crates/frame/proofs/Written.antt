@@ -5,26 +5,27 @@
 --     written-behind      two rows are written one behind the other, with their stuff bits
 --     written-header      a header is written, its first three bits as they are
 --     written-field       a field that draws no stuff bit is written as it is
---     written-tail        what follows it: the two bits behind the CRC's fourteen are written over
+--     written-tail        what follows it: the bit behind the CRC is written over
 --     tail-room           the room that this takes
 --     written-line        a row is written from the start of a line on, and bits as they are behind it
 use mathlib.Core.Path.{_≡_, refl, sym, ap, _∙_}
-use mathlib.Core.List.{List, [], _∷_, _++_}
+use mathlib.Core.List.{List, _∷_, _++_}
 use Prim.Native.Nat.{ℕ, suc, _+_, _-_, _*_, _/_, _%_, _^_, _≤_, _<_}
 use native.Mathlib.Nat.{zero-add}
 use native.Mathlib.Omega.{arith}
 use lib.Dec.{lit<}
-use lib.ListN.{length, length-append, drop, set}
-use lib.Seq.{sets, length-sets, sets-eq, set-set, set-comm}
+use lib.ListN.{length, length-append, drop, set, replicate}
+use lib.Seq.{sets, length-sets, sets-eq, set-set}
 use Rattle.bits.specs.declared.Run.{Run}
 use Rattle.bits.specs.Rows.{bits}
 use Rattle.bits.specs.Fours.{fourAt}
 use Rattle.bits.specs.Stuffing.{nothingSent, stuffed, stuffCount, runAfterRow}
 use Rattle.bits.proofs.Filling.{sets-append}
 use Rattle.bits.proofs.Rows.{bits-length, bits-next, bits-low}
-use Rattle.bits.proofs.Stuffing.{runAfterRow-append, stuffed-append}
+use Rattle.bits.proofs.Stuffing.{runAfterRow-append, stuffed-append, stuffed-length}
 use Rattle.frame.specs.Fours.{runOf, sentOf, quietCheck}
 use Rattle.frame.specs.declared.writing.Spot.{Spot}
+use Rattle.frame.specs.Line.{ending}
 use Rattle.frame.specs.Writing.{Written, tailRow}
 use Rattle.frame.proofs.Quiet.{quiet-sent, header-run-is, header-sent, check-sent}
 use Rattle.frame.proofs.FourBits.{run-fours, sent-fours, sent-row, sent-run, sent-below}
@@ -98,13 +99,6 @@ written-behind {r} {at} {next} {last} {first} {second} {third} l m w v =
       at-is = v .at-is ∙ rw (w .at-is, w .run-is, sent, length-append) (omega arith);
     }
 
-written-over : (l : List ℕ) (i a b x y : ℕ) (rest : List ℕ) → sets (sets l i (a ∷ b ∷ [])) i (x ∷ y ∷ rest) ≡ sets l i (x ∷ y ∷ rest)
-written-over l i a b x y rest =
-    let swapped : set (set (set l i a) (suc i) b) i x ≡ set (set l i x) (suc i) b =
-    set-comm (set l i a) (suc i) i b x (λ e. omega arith) ∙ ap (λ (m : List ℕ). set m (suc i) b) (set-set l i a x) in
-    ap (λ (m : List ℕ). sets (set m (suc i) y) (suc (suc i)) rest) swapped
-    ∙ ap (λ (m : List ℕ). sets m (suc (suc i)) rest) (set-set (set l i x) (suc i) b y)
-
 pub written-header : (h : ℕ) (first second third : List ℕ) (next : Spot) → h < 2 ^ 18 → second ≡ sets first 0 (bits 3 (h / 2 ^ 16))
     → Written (runOf (8 + h / 2 ^ 16)) 3 (bits 16 h) second third next
     → Written nothingSent 0 (bits 19 h) first third next
@@ -135,34 +129,35 @@ written-field r at n v last to before line quiet behind low written place =
       at-is = omega (arith, place, ap length sent, bits-length (8 * n) v);
     }
 
--- how many bits go out behind the data field, with the two that are written over
+-- how many bits go out behind the data field, with the one that is written over
 pub tail-room : (r : Run) (crc : ℕ) →
-    (length (stuffed r (bits 16 (quietCheck crc))) ≡ length (stuffed r (bits 14 (crc / 2))) + 2)
-    × (length (tailRow r crc) ≡ length (stuffed r (bits 14 (crc / 2))) + 11)
+    (length (stuffed r (bits 16 (quietCheck crc))) ≡ length (stuffed r (bits 15 crc)) + 1)
+    × (length (tailRow r crc) ≡ length (stuffed r (bits 15 crc)) + 10)
+    × (15 ≤ length (stuffed r (bits 15 crc)))
 tail-room r crc =
-    let front = stuffed r (bits 14 (crc / 2)) in (
-      ap length (check-sent r crc) ∙ length-append front _ ∙ ap (λ (k : ℕ). length front + k) (bits-length 2 _),
-      length-append front _ ∙ ap (λ (k : ℕ). length front + k) (bits-length 11 _),
+    let front = stuffed r (bits 15 crc) in (
+      ap length (check-sent r crc) ∙ length-append front _ ∙ ap (λ (k : ℕ). length front + k) (bits-length 1 _),
+      length-append front (ending 1),
+      omega (arith, stuffed-length r (bits 15 crc), bits-length 15 crc),
     )
 
--- eleven bits over two
-eleven-over : (l : List ℕ) (i a b : ℕ) → sets (sets l i (bits 2 a)) i (bits 11 b) ≡ sets l i (bits 11 b)
+-- ten bits 1 over one bit
+ten-over : (l : List ℕ) (i a : ℕ) → sets (sets l i (bits 1 a)) i (bits 10 1023) ≡ sets l i (ending 1)
 unfolding bits
-eleven-over l i a b = written-over l i (a / 2 ^ 1 % 2) (a / 2 ^ 0 % 2) (b / 2 ^ 10 % 2) (b / 2 ^ 9 % 2) (bits 9 b)
+ten-over l i a = ap (λ (m : List ℕ). sets m (suc i) (replicate 9 1)) (set-set l i (a / 2 ^ 0 % 2) 1)
 
 pub written-tail : (r : Run) (at crc to : ℕ) (first second third : List ℕ) (next : Spot)
     → Written r at (bits 16 (quietCheck crc)) first second next
-    → third ≡ sets second (next .at - 2) (bits 11 (crc % 2 * 1024 + 1023)) → to ≡ next .at - 2 + 11
+    → third ≡ sets second (next .at - 1) (bits 10 1023) → to ≡ next .at - 1 + 10
     → (third ≡ sets first at (tailRow r crc)) × (to ≡ at + length (tailRow r crc))
 written-tail r at crc to first second third next w e place =
-    let front = stuffed r (bits 14 (crc / 2)) in
-    let two = bits 2 (2 - crc / 2 % 2) in
-    let last = bits 11 (crc % 2 * 1024 + 1023) in
+    let front = stuffed r (bits 15 crc) in
+    let one = bits 1 (1 - crc % 2) in
     let room = tail-room r crc in
-    let behind : next .at - 2 ≡ at + length front = omega (arith, w .at-is, room .0) in
-    let both : second ≡ sets (sets first at front) (at + length front) two =
-    w .line-is ∙ ap (sets first at) (check-sent r crc) ∙ sets-append first at front two in (
-      e ∙ rw (behind, both) (eleven-over (sets first at front) (at + length front) _ _) ∙ sym (sets-append first at front last),
+    let behind : next .at - 1 ≡ at + length front = omega (arith, w .at-is, room .0) in
+    let both : second ≡ sets (sets first at front) (at + length front) one =
+    w .line-is ∙ ap (sets first at) (check-sent r crc) ∙ sets-append first at front one in (
+      e ∙ rw (behind, both) (ten-over (sets first at front) (at + length front) _) ∙ sym (sets-append first at front (ending 1)),
       omega (arith, place, behind, room .1),
     )
 

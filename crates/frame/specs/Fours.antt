@@ -34,6 +34,6 @@ pub record Counts (r : Run) (row : List ℕ) (counted : Counted) : Type 0 where
   pub drawn-is : counted .drawn ≡ stuffCount r row
   pub few : counted .drawn ≤ length row
 
--- the CRC bits that a stuff bit may follow, and behind them two that draw none
+-- the CRC bits, and behind them one that draws no stuff bit: the last of them negated
 abbrev pub quietCheck : ℕ → ℕ
-quietCheck crc = crc / 2 * 4 + 2 - crc / 2 % 2
+quietCheck crc = crc * 2 + 1 - crc % 2

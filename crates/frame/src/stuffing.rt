@@ -54,10 +54,10 @@ pub(crate) fn behind(last: u64, field: u64, n: usize) -> u64
     if n == 0 { last } else { field % 16 }
 }
 
-// The 14 CRC bits that a stuff bit may follow, and behind them two that draw none: the last of them negated, and it itself.
+// The 15 CRC bits, and behind them one that draws no stuff bit: the last of them negated.
 pub(crate) fn check(crc: u64) -> u64
     requires { ⌜ crc < 2 ^ 15 ⌝ }
     ensures { λ r. ⌜ r ≡ quietCheck crc ⌝ }
 {
-    crc / 2 * 4 + 2 - crc / 2 % 2
+    crc * 2 + 1 - crc % 2
 }

@@ -58,14 +58,14 @@ fn field(bytes: &[u32; 16], field: u64, n: usize, spot: Spot, line: &mut [u8]) -
     Spot { last, at }
 }
 
-// Writes what follows the data field, the CRC and the ten bits that are never stuffed; the length of the line. Nothing is inserted
-// behind the last CRC bit, and the two bits that go out behind the one before it are written over.
+// Writes what follows the data field, the CRC and the ten bits 1 that are never stuffed; the length of the line. The first of these is
+// written over the bit that goes out behind the CRC.
 fn tail(list: &[u8; 256], bytes: &[u32; 16], crc: u64, spot: Spot, line: &mut [u8]) -> usize
     requires { ⌜ (now list ≡ sentList) × (now bytes ≡ byteList) × (crc < 2 ^ 15) × (spot .last < 16) × (spot .at + length (tailRow (runOf (spot .last)) crc) ≤ length (now line)) ⌝ }
     ensures { λ r. ⌜ (now (line .exit) ≡ sets (now (line .entry)) (spot .at) (tailRow (runOf (spot .last)) crc)) × (r ≡ spot .at + length (tailRow (runOf (spot .last)) crc)) ⌝ }
 {
     let check = stuffed(list, bytes, stuffing::check(crc), 4, spot, line);
-    plain(crc % 2 * 1024 + 1023, 11, check.at - 2, line)
+    plain(1023, 10, check.at - 1, line)
 }
 
 // Writes the lowest `count` times four bits of a number, with their stuff bits.

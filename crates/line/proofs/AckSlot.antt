@@ -8,11 +8,11 @@ use mathlib.Core.List.{List, [], _∷_, _++_, append-assoc}
 use Prim.Native.Nat.{ℕ, zero, suc, _-_, _<_}
 use native.Mathlib.Omega.{arith}
 use lib.Dec.{lit<}
-use lib.ListN.{length, getD, drop, set, replicate, length-append, length-set}
+use lib.ListN.{length, getD, set, replicate, length-append, length-set}
 use lib.Seq.{set-at, set-getD, set-set}
 use Rattle.bits.specs.Below.{Below}
 use Rattle.bits.specs.Stuffing.{nothingSent, stuffed}
-use Rattle.frame.specs.Line.{crcBits, stuffedCrcBits, stuffedRow, ending, lineOf}
+use Rattle.frame.specs.Line.{stuffedRow, ending, lineOf}
 use Rattle.line.specs.Ack.{withAck}
 
 with-ack : (ack other : ℕ) (l : List ℕ) → withAck ack (l ++ ending other) ≡ l ++ ending ack
@@ -29,27 +29,17 @@ module _ (headerBits dataBits : List ℕ) where
   abbrev stuffedBits : List ℕ
   stuffedBits = stuffed nothingSent (stuffedRow headerBits dataBits)
 
-  abbrev lastBit : List ℕ
-  lastBit = drop stuffedCrcBits (crcBits headerBits dataBits)
-
-  abbrev front : List ℕ
-  front = stuffedBits ++ lastBit
-
-  line-front : lineOf headerBits dataBits ≡ front ++ ending 1
+  pub line-ack : (ack : ℕ) → withAck ack (lineOf headerBits dataBits) ≡ stuffedBits ++ ending ack
   unfolding lineOf
-  line-front = sym (append-assoc stuffedBits lastBit (ending 1))
-
-  front-ack : (ack : ℕ) → withAck ack (lineOf headerBits dataBits) ≡ front ++ ending ack
-  front-ack ack = ap (withAck ack) line-front ∙ with-ack ack 1 front
-
-  pub line-ack : (ack : ℕ) → withAck ack (lineOf headerBits dataBits) ≡ stuffedBits ++ (lastBit ++ ending ack)
-  line-ack ack = front-ack ack ∙ append-assoc stuffedBits lastBit (ending ack)
+  line-ack ack = with-ack ack 1 stuffedBits
 
   pub line-own : withAck 1 (lineOf headerBits dataBits) ≡ lineOf headerBits dataBits
-  line-own = front-ack 1 ∙ sym line-front
+  unfolding lineOf
+  line-own = line-ack 1
 
   pub ack-again : (ack : ℕ) → withAck 1 (withAck ack (lineOf headerBits dataBits)) ≡ lineOf headerBits dataBits
-  ack-again ack = ap (withAck 1) (front-ack ack) ∙ with-ack 1 ack front ∙ sym line-front
+  unfolding lineOf
+  ack-again ack = ap (withAck 1) (line-ack ack) ∙ with-ack 1 ack stuffedBits
 
 bit-at : (l : List ℕ) (i : ℕ) → Below 2 l → getD l i 0 < 2
 bit-at [] i below = lit< tt

@@ -3,7 +3,7 @@
 use mathlib.Core.Path.{_≡_, refl}
 use mathlib.Core.List.{List, [], _∷_, _++_, map}
 use Prim.Native.Nat.{ℕ}
-use lib.ListN.{set, replicate}
+use lib.ListN.{set, take, replicate}
 use Rattle.bits.specs.Rows.{bits, number}
 use Rattle.bits.specs.Packing.{unpacked, packed}
 use Rattle.bits.specs.Neighbours.{equalNeighbours}
@@ -21,6 +21,14 @@ use Rattle.line.specs.Read.{fieldIn, readAnswer, lineNumbers}
 -- the frame of identifier 0 and the empty payload: 19 + 15 bits 0, six times five of them with a stuff bit; the last is at place 39
 abbrev pub empty : List ℕ
 empty = unpacked 6 (replicate 6 1) ++ (replicate 4 0 ++ replicate 10 1)
+
+-- the frame of identifier 0 and payload 77, whose CRC ends in five 1s at place 53: the stuff bit is at place 54
+abbrev pub ending1s : List ℕ
+ending1s = unpacked 6 (replicate 3 1) ++ (bits 4 2 ++ (bits 16 0xBB15 ++ (bits 17 0b00001111100111110 ++ replicate 10 1)))
+
+-- and of payload 5F, whose CRC ends in five 0s there
+abbrev pub ending0s : List ℕ
+ending0s = unpacked 6 (replicate 3 1) ++ (bits 4 2 ++ (bits 16 0xB315 ++ (bits 17 0b11110110001000001 ++ replicate 10 1)))
 
 -- start of frame and an identifier of eleven bits
 abbrev pub begins : ℕ → List ℕ
@@ -61,6 +69,18 @@ cases =
     -- a CRC bit, and the last one
     ∷ (set empty 36 1, 12 at 39)
     ∷ (set empty 39 1, 12 at 39)
+    -- the stuff bit behind the last CRC bit; lines without it, in which the CRC delimiter is taken for it
+    ∷ (ending1s, given 1 0)
+    ∷ (ending0s, given 1 0)
+    ∷ (take 54 ending1s ++ replicate 10 1, 10 at 54)
+    ∷ (take 54 ending0s ++ replicate 10 1, 11 at 64)
+    -- the line ends before it, and behind it; a byte that is no bit; the CRC delimiter behind it
+    ∷ (take 54 ending1s, 11 at 54)
+    ∷ (take 55 ending1s, 11 at 55)
+    ∷ (set ending1s 54 2, 9 at 54)
+    ∷ (set ending1s 55 0, 13 at 55)
+    -- a wrong CRC comes before it
+    ∷ (set (set ending1s 39 1) 54 1, 12 at 53)
     -- DLC 1; DLC 15 and a sixth 1 behind it
     ∷ (unpacked 6 (replicate 3 1) ++ bits 4 1, 3 at 21)
     ∷ (begins 0b10101010100 ++ (0 ∷ 0 ∷ 0 ∷ 1 ∷ bits 5 31), 3 at 19)

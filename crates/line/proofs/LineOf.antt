@@ -1,49 +1,47 @@
--- The line of a frame's bits: stuffed up to the last CRC bit that a stuff bit may follow, and then as they are. Assumes nothing.
+-- The line of a frame's bits: stuffed to the last CRC bit, and then as they are. Assumes nothing.
 --     line-of    it is the made line, but for the bit in the ACK slot
 use mathlib.Core.Path.{_≡_, refl, sym, ap, _∙_}
-use mathlib.Core.Bool.{Bool, true, false, and-true, and-false}
+use mathlib.Core.Bool.{Bool, true, false}
 use mathlib.Core.List.{List, [], _∷_, _++_, append-assoc}
 use Prim.Native.Nat.{ℕ, _+_, _-_, _≤_, _<_}
 use native.Mathlib.Omega.{arith}
 use lib.Dec.{eqb, ltb}
-use lib.ListN.{length, take, drop, length-append, take-append-drop}
-use lib.Seq.{append-snoc, length-take-le}
-use borrow.Author.Tests.{ltb-true, ltb-false, ne-eqb, le-leb, lt-leb}
+use lib.ListN.{length, length-append}
+use lib.Seq.{append-snoc}
+use borrow.Author.Tests.{ltb-true, ltb-false, ne-eqb}
 use Rattle.bits.specs.declared.Run.{Run}
 use Rattle.bits.specs.Stuffing.{nothingSent, stuffAfter, runAfter, stuffed}
-use Rattle.frame.specs.Line.{crcBits, stuffedCrcBits, stuffedRow, ending, lineOf}
+use Rattle.frame.specs.Line.{crcBits, stuffedRow, ending, lineOf}
 use Rattle.frame.proofs.LineParts.{crc-length}
 use Rattle.scanning.specs.Scan.{crcStart, stuffDue, runWith}
 use Rattle.scanning.proofs.Partial.{start-least, start-stays}
+use Rattle.scanning.proofs.StuffDue.{due-within, due-past}
 use Rattle.line.specs.Ack.{withAck}
 use Rattle.line.proofs.OnLine.{dueBits, dueRun, onLine, lineFrom, no-stuff}
 use Rattle.line.proofs.AckSlot.{line-ack}
 
 -- how many bits of a frame a stuff bit may follow
 abbrev within : List ℕ → ℕ
-within frame = crcStart frame + stuffedCrcBits
+within frame = crcStart frame + 15
 
 module _ (run : Run) (frame l : List ℕ) where
-  due-within : length frame ≤ within (frame ++ l) → stuffDue run frame ≡ eqb (run .count) 5
-  unfolding stuffDue
-  due-within h = rw (le-leb (length frame) (within frame) (go (ltb (length frame) 19) refl)) (and-true (eqb (run .count) 5))
+  due-five : length frame ≤ within (frame ++ l) → stuffDue run frame ≡ eqb (run .count) 5
+  due-five h = due-within run frame (go (ltb (length frame) 19) refl)
     where
       go : (t : Bool) → ltb (length frame) 19 ≡ t → length frame ≤ within frame
       go true e = omega (arith, ltb-true, start-least frame)
       go false e = omega (arith, start-stays frame l (ltb-false (length frame) 19 e))
 
-  due-past : within (frame ++ l) < length frame → stuffDue run frame ≡ false
-  unfolding stuffDue
-  due-past h =
+  due-never : within (frame ++ l) < length frame → stuffDue run frame ≡ false
+  due-never h =
       let late : 19 ≤ length frame = omega (arith, start-least (frame ++ l)) in
-      let past : within frame < length frame = omega (arith, start-stays frame l late) in
-      rw (lt-leb (length frame) (within frame) past) (and-false (eqb (run .count) 5))
+      due-past run frame (omega (arith, start-stays frame l late))
 
 stuff-within : (run : Run) (b : ℕ) (frame l : List ℕ) → length frame ≤ within (frame ++ l)
     → (dueBits (runWith run b) frame ≡ stuffAfter run b) × (dueRun (runWith run b) frame ≡ runAfter run b)
 unfolding dueBits dueRun stuffAfter runAfter runWith
 stuff-within run b frame l h =
-    let due = due-within (runWith run b) frame l h in
+    let due = due-five (runWith run b) frame l h in
     (rw due, rw (due, ne-eqb (1 - b) b (λ e. omega arith)))
 
 plain-rest : (run : Run) (frame l : List ℕ) → within (frame ++ l) ≤ length frame → onLine run frame l ≡ l
@@ -53,7 +51,7 @@ plain-rest run frame (b ∷ l) h =
     let next = runWith run b in
     let more = frame ++ (b ∷ []) in
     let past : within (more ++ l) < length more = rw (append-snoc frame b l, length-append frame (b ∷ [])) (omega arith) in
-    ap (b ∷_) (no-stuff next more l (due-past next more l past) ∙ plain-rest next more l (omega arith))
+    ap (b ∷_) (no-stuff next more l (due-never next more l past) ∙ plain-rest next more l (omega arith))
 
 stuffed-front : (run : Run) (frame m l : List ℕ) → length frame + length m ≡ within (frame ++ (m ++ l))
     → onLine run frame (m ++ l) ≡ stuffed run m ++ l
@@ -75,15 +73,8 @@ pub line-of : (headerBits dataBits : List ℕ) (ack : ℕ) →
     length (headerBits ++ dataBits) ≡ crcStart all → lineFrom nothingSent [] all ≡ withAck ack (lineOf headerBits dataBits)
 unfolding stuffedRow
 line-of headerBits dataBits ack h =
-    let check = crcBits headerBits dataBits in
-    let few = take stuffedCrcBits check in
-    let last = drop stuffedCrcBits check in
     let m = stuffedRow headerBits dataBits in
-    let same : headerBits ++ (dataBits ++ (check ++ ending ack)) ≡ m ++ (last ++ ending ack)
-    = simp append-assoc
-    (ap (λ (l : List ℕ). headerBits ++ (dataBits ++ l))
-    (ap (_++ ending ack) (sym (take-append-drop stuffedCrcBits check)) ∙ append-assoc few last (ending ack))) in
-    let size : length few ≡ stuffedCrcBits = length-take-le stuffedCrcBits check (omega (arith, crc-length headerBits dataBits)) in
-    let long : length m ≡ within (m ++ (last ++ ending ack))
-    = simp length-append (omega (arith, ap crcStart same, length-append headerBits dataBits)) in
-    ap (lineFrom nothingSent []) same ∙ whole-line m (last ++ ending ack) long ∙ sym (line-ack headerBits dataBits ack)
+    let same : headerBits ++ (dataBits ++ (crcBits headerBits dataBits ++ ending ack)) ≡ m ++ ending ack = simp append-assoc in
+    let long : length m ≡ within (m ++ ending ack)
+    = simp length-append (omega (arith, ap crcStart same, length-append headerBits dataBits, crc-length headerBits dataBits)) in
+    ap (lineFrom nothingSent []) same ∙ whole-line m (ending ack) long ∙ sym (line-ack headerBits dataBits ack)

@@ -6,18 +6,18 @@
 --     stuff-right, right-stuff   where one is due, it finds none with the other bit than the run's
 --     due-no-more     in a complete frame no stuff bit is due
 use mathlib.Core.Path.{_≡_, refl, sym, _∙_}
-use mathlib.Core.Bool.{Bool, true, false, cond, not, _&&_, and-false, true≢false}
+use mathlib.Core.Bool.{Bool, true, false, cond, not, _&&_, true≢false}
 use mathlib.Core.List.{List, [], _∷_, _++_}
 use Prim.Native.Nat.{ℕ, _+_, _-_, _<_}
 use native.Mathlib.Omega.{arith}
 use lib.Dec.{eqb, ltb}
 use lib.ListN.{length}
-use borrow.Author.Tests.{ltb-false, eqb-true, eqb-false, lt-leb}
+use borrow.Author.Tests.{ltb-false, eqb-true, eqb-false}
 use Rattle.bits.specs.declared.Run.{Run}
 use Rattle.refusals.specs.declared.Refusal.{Refusal}
-use Rattle.frame.specs.Line.{stuffedCrcBits}
 use Rattle.scanning.specs.Form.{fits}
 use Rattle.scanning.specs.Scan.{crcStart, complete, stuffDue, mustBe, dlcRefused, crcRight, shown, Verdict, right, wrong, verdict}
+use Rattle.scanning.proofs.StuffDue.{due-past}
 use Rattle.scanning.proofs.Verdicts.{stuff-bit, frame-bit}
 
 abbrev pub dlcWrong : List ℕ → Bool
@@ -75,11 +75,8 @@ module _ (run : Run) (frame : List ℕ) (place bit : ℕ) where
 
 module _ (run : Run) (frame : List ℕ) where
   pub due-no-more : complete frame ≡ true → stuffDue run frame ≡ false
-  unfolding complete stuffDue
-  due-no-more e =
-      let last = crcStart frame + stuffedCrcBits in
-      let past : last < length frame = omega (arith, eqb-true (length frame) (crcStart frame + 25) e) in
-      rw (lt-leb (length frame) last past) (and-false (eqb (run .count) 5))
+  unfolding complete
+  due-no-more e = due-past run frame (omega (arith, eqb-true (length frame) (crcStart frame + 25) e))
 
   due-more : stuffDue run frame ≡ true → complete frame ≡ false
   due-more due = go (complete frame) refl

@@ -34,7 +34,8 @@ use Rattle.scanning.proofs.Positions.{rowAt, startOf, endOf, end-is, ne
 use Rattle.scanning.proofs.Registers.{Fine, Registers, in-header, in-data, in-crc, behind, crc-length, dlc-known, dlc-read, header-put, field-put, crc-there, identifier-there, data-there}
 use Rattle.scanning.proofs.Verdicts.{bit-too-many, dlc-taken, taken-dlc, length-refused, crc-refused, nothing-shown}
 use Rattle.scanning.proofs.RawBits.{none}
-use Rattle.scanning.proofs.Keeping.{bytes, dataBits, rest, pending, Between, Within, least-not, missing}
+use Rattle.scanning.proofs.Passing.{rest}
+use Rattle.scanning.proofs.Keeping.{bytes, dataBits, pending, Told, Between, Within, least-not, missing}
 
 -- only the data field hangs on the DLC
 other-field : (f n : ℕ) → (f ≡ 4 → ⊥) → rowAt f (rowsOf n) ≡ rowAt f (rowsOf 0)
@@ -140,7 +141,6 @@ field-begins line f seen run frame own more h e b =
       from = omega (arith, b .at-is);
       data-bits-is = b .data-bits-is;
       registers = b .registers;
-      told = b .told;
       fresh = b .fresh;
       reached = b .reached;
       behind = b .behind;
@@ -173,7 +173,7 @@ line-begins line =
       at-is = sym (first-start 0);
       data-bits-is = refl;
       registers = in-header (omega arith) refl (lit< tt);
-      told = λ h. none refl refl refl;
+      told = λ few. none refl refl refl;
       fresh = λ e. refl;
       reached = omega arith;
       behind = omega arith;
@@ -195,7 +195,7 @@ Ends line f run frame (Next next) = Between line (f + 1) next run frame
 Ends line f run frame (Refused refusal) = scanned line ≡ stopped refusal
 
 module _ (line : List ℕ) (f : ℕ) (seen : Seen) (run : Run) (left : ℕ) (frame : List ℕ) (h : f < 9)
-    (w : Within line f seen run left frame) (z : left ≡ 0) where
+    (w : Within line f seen run left frame) (told-of : Told seen run frame) (z : left ≡ 0) where
   at : length frame ≡ endOf f (bytes seen)
   at = omega (arith, w .at-is)
 
@@ -215,7 +215,7 @@ module _ (line : List ℕ) (f : ℕ) (seen : Seen) (run : Run) (left : ℕ) (fra
     at-is = at ∙ next-start f (bytes seen);
     data-bits-is = w .data-bits-is ∙ no-data f _ not-dlc not-data;
     registers = passed-on f (seen .header) (seen .field) (seen .number) frame not-dlc not-data not-crc (w .registers);
-    told = λ g. w .told (omega (arith, g));
+    told = told-of;
     fresh = w .fresh;
     reached = w .reached;
     behind = w .behind;
@@ -260,7 +260,7 @@ module _ (line : List ℕ) (f : ℕ) (seen : Seen) (run : Run) (left : ℕ) (fra
                 registers =
                     subst (λ (k : ℕ). Registers k n (seen .field) 0 frame) (sym next)
                     (header-put (seen .field) n frame nineteen fine e);
-                told = λ g. w .told (omega (arith, g));
+                told = told-of;
                 fresh = w .fresh;
                 reached = w .reached;
                 behind = w .behind;
@@ -286,7 +286,7 @@ module _ (line : List ℕ) (f : ℕ) (seen : Seen) (run : Run) (left : ℕ) (fra
             registers =
                 subst (λ (k : ℕ). Registers k (seen .header) (seen .number) 0 frame) (sym next)
                 (field-put (seen .header) (seen .number) k frame (at ∙ end) fine e l);
-            told = λ g. w .told (omega (arith, g));
+            told = told-of;
             fresh = w .fresh;
             reached = w .reached;
             behind = w .behind;
@@ -319,7 +319,7 @@ module _ (line : List ℕ) (f : ℕ) (seen : Seen) (run : Run) (left : ℕ) (fra
             at-is = at ∙ next-start f (bytes seen);
             data-bits-is = w .data-bits-is ∙ no-data f _ (λ x. omega arith) (λ x. omega arith);
             registers = behind (bits k (seen .number)) (omega arith) put e (rw fifteen at l);
-            told = λ g. w .told (omega (arith, g));
+            told = told-of;
             fresh = w .fresh;
             reached = w .reached;
             behind = w .behind;
@@ -339,9 +339,9 @@ module _ (line : List ℕ) (f : ℕ) (seen : Seen) (run : Run) (left : ℕ) (fra
 
 -- where reading stops in the row
 pub field-ends : (line : List ℕ) (f : ℕ) (seen : Seen) (run : Run) (left : ℕ) (frame : List ℕ) → f < 9 → Within line f seen run left frame
-    → seen .stop ≤ seen .place → Ends line f run frame (fieldEnd f seen)
+    → Told seen run frame → seen .stop ≤ seen .place → Ends line f run frame (fieldEnd f seen)
 unfolding fieldEnd
-field-ends line f seen run left frame h w over = go (ltb (seen .place) (seen .end)) refl
+field-ends line f seen run left frame h w told over = go (ltb (seen .place) (seen .end)) refl
   where
     go : (t : Bool) → ltb (seen .place) (seen .end) ≡ t
         → Ends line f run frame (cond t (Refused (LineLength (seen .place))) (partEnd f seen))
@@ -350,7 +350,7 @@ field-ends line f seen run left frame h w over = go (ltb (seen .place) (seen .en
         missing line f seen run left frame h w (omega (arith, w .end-is))
         (least-not (seen .end) (length line) (seen .place) (rw (w .stop-is) at over) before)
     go false d =
-        part-ends line f seen run left frame h w (omega (arith, w .end-is, ltb-false (seen .place) (seen .end) d))
+        part-ends line f seen run left frame h w told (omega (arith, w .end-is, ltb-false (seen .place) (seen .end) d))
 
 -- ---- behind the last row
 

@@ -6,32 +6,33 @@
 --     must-stand         the bit that must stand next
 --     number-small, end-small    the number of a part and the place of the row's end leave room for one more bit
 --     missing            the line ends in the row
-use mathlib.Core.Path.{_≡_, refl, sym, ap, _∙_}
+use mathlib.Core.Path.{_≡_, refl, sym, ap, _∙_, subst}
 use mathlib.Core.Bool.{Bool, true, false, cond, not}
 use mathlib.Core.List.{List, [], _∷_, _++_}
 use mathlib.Core.Logic.{_⊎_, inl, inr}
 use Prim.Native.Nat.{ℕ, zero, suc, _+_, _-_, _*_, _%_, _^_, _≤_, _<_}
 use native.Mathlib.Nat.{lt-of-lt-of-le}
-use native.Mathlib.Numerals.{add-one}
 use native.Mathlib.Omega.{arith}
-use lib.Dec.{eqb, leb, ltb}
+use lib.Dec.{eqb, ltb}
 use lib.Pow.{pow-mono}
-use lib.ListN.{length, drop, drop-of-length-le}
-use lib.Seq.{drop-cons}
-use borrow.Author.Tests.{lt-ltb, le-ltb, ne-eqb, ltb-true, ltb-false, leb-true, leb-false, eqb-true, eqb-false}
+use lib.ListN.{length, drop}
+use borrow.Author.Tests.{ltb-true, ltb-false, eqb-true, eqb-false}
 use Rattle.bits.specs.declared.Run.{Run}
 use Rattle.bits.specs.Stuffing.{counted}
-use Rattle.refusals.specs.declared.Refusal.the-variants.{LineByte, StuffBit, LineLength, FixedBit}
+use Rattle.refusals.specs.declared.Refusal.the-variants.{LineByte, LineLength, FixedBit}
 use Rattle.scanning.specs.Form.{form, fits}
-use Rattle.scanning.specs.Scan.{dlcIn, complete, crcStart, stuffDue, mustBe, Verdict, right, shown, verdict, runWith, frameWith, Scanned, stopped, onward, scan, scanned}
-use Rattle.scanning.specs.Steps.{rowsOf, least, bitAt, behindStuffBit, oneOn, dueIn, stuffBit, passed, judgedBit, fieldBit, endingBit, andThen, lineBit}
+use Rattle.scanning.specs.Scan.{dlcIn, complete, crcStart, stuffDue, mustBe, Verdict, right, shown, verdict, runWith, frameWith, stopped, onward, scan, scanned}
+use Rattle.scanning.specs.Steps.{rowsOf, least, bitAt, oneOn, passed, judgedBit, fieldBit, endingBit, andThen, endingRow, lineBit}
 use Rattle.scanning.specs.declared.seen.Seen.{Seen}
 use Rattle.scanning.specs.declared.seen.Step.{Step}
 use Rattle.scanning.specs.declared.seen.Step.the-variants.{Next, Refused}
-use Rattle.scanning.proofs.Positions.{rowAt, startOf, endOf, data-from, ending-from, header-end, data-end, crc-end, end-within, early-or-known, must-is, due-is, not-complete}
-use Rattle.scanning.proofs.RawBits.{Tells, five-told, bit-told, told-more, told-stuff}
+use Rattle.scanning.proofs.Positions.{rowAt, startOf, endOf, data-from, ending-from, header-end, data-end, crc-end, end-within, slot-from, early-or-known, to-the-crc, behind-the-crc, must-is, not-complete}
+use Rattle.scanning.proofs.Passing as passing
+use Rattle.scanning.proofs.Passing.{rest, Passes, pass-goes}
+use Rattle.scanning.proofs.RawBits.{Tells, told-more}
 use Rattle.scanning.proofs.Registers.{Registers, in-header, in-data, in-crc, behind, bit-added, ending-added, longer, data-length, crc-length, dlc-known}
-use Rattle.scanning.proofs.Verdicts.{byte-above-1, sixth-bit, stuff-bit, fixed-bit, frame-bit, nothing-shown}
+use Rattle.scanning.proofs.StuffDue.{due-within, due-past}
+use Rattle.scanning.proofs.Verdicts.{byte-above-1, fixed-bit, frame-bit, nothing-shown}
 
 -- the bytes of the data field, as the code has them
 abbrev pub bytes : Seen → ℕ
@@ -40,10 +41,6 @@ bytes seen = seen .header % 16
 -- and its bits, as far as the present row has them
 abbrev pub dataBits : ℕ → ℕ → ℕ
 dataBits f n = cond (eqb f 4) (8 * n) 0
-
--- what is left of the line
-abbrev pub rest : List ℕ → Seen → Run → List ℕ → Scanned
-rest line seen run frame = scan run frame (seen .place) (drop (seen .place) line)
 
 -- behind a row's last bit the frame is still to be looked at
 abbrev pub pending : ℕ → List ℕ → ℕ → Verdict
@@ -54,13 +51,17 @@ pending-none : (left : ℕ) (frame : List ℕ) (place : ℕ) → 0 < left → pe
 pending-none zero frame place h = absurd (omega arith)
 pending-none (suc left) frame place h = refl
 
--- before row f; the run is what the raw bits tell, up to the CRC
+-- as long as a stuff bit may come, the raw bits tell the run
+abbrev pub Told : Seen → Run → List ℕ → Type 0
+Told seen run frame = length frame ≤ crcStart frame + 15 → Tells (seen .raw) run
+
+-- before row f
 pub record Between (line : List ℕ) (f : ℕ) (seen : Seen) (run : Run) (frame : List ℕ) : Type 0 where
   pub leads : scanned line ≡ rest line seen run frame
   pub at-is : length frame ≡ startOf f (bytes seen)
   pub data-bits-is : seen .«data_bits» ≡ dataBits f (bytes seen)
   pub registers : Registers f (seen .header) (seen .field) (seen .number) frame
-  pub told : f ≤ 5 → Tells (seen .raw) run
+  pub told : Told seen run frame
   pub fresh : run .count ≡ 0 → length frame ≡ 0
   pub reached : seen .place ≤ length line
   pub behind : length frame ≤ seen .place
@@ -74,7 +75,6 @@ pub record Within (line : List ℕ) (f : ℕ) (seen : Seen) (run : Run) (left : 
   pub from : startOf f (bytes seen) ≤ length frame
   pub data-bits-is : seen .«data_bits» ≡ dataBits f (bytes seen)
   pub registers : Registers f (seen .header) (seen .field) (seen .number) frame
-  pub told : f ≤ 5 → Tells (seen .raw) run
   pub fresh : run .count ≡ 0 → length frame ≡ 0
   pub reached : seen .place ≤ length line
   pub behind : length frame ≤ seen .place
@@ -133,17 +133,23 @@ shown-inside f n frame place from to known =
     check e (inr is) true d = omega (arith, from, ending-from f n (ltb-true 5 f d))
     check e (inr is) false d = omega (arith, to, crc-end f n (ltb-false 5 f d))
 
--- what passing a stuff bit in row f leads to: none is due behind it
-abbrev Passes : List ℕ → ℕ → Seen → ℕ → List ℕ → Step → Type 0
-Passes line f seen left frame (Next next) =
-    (run : Run) × Within line f next run left frame × (stuffDue run frame ≡ false) × (next .place < next .stop) × (seen .place ≤ next .place)
-Passes line f seen left frame (Refused refusal) = scanned line ≡ stopped refusal
+-- in row f, with no stuff bit due before the next bit; up to the CRC the raw bits tell the run
+abbrev Ready : List ℕ → ℕ → Seen → ℕ → List ℕ → Run → Seen → Type 0
+Ready line f seen left frame run next =
+    Within line f next run left frame × (f ≤ 5 → Tells (next .raw) run) × (stuffDue run frame ≡ false)
+    × (next .place < next .stop) × (seen .place ≤ next .place)
 
 -- what a step in row f leads to
 abbrev pub Goes : List ℕ → ℕ → Seen → Step → Type 0
 Goes line f seen (Next next) =
-    (run : Run) × (left : ℕ) × (frame : List ℕ) × Within line f next run left frame × (seen .place < length line) × (seen .place < next .place)
+    (run : Run) × (left : ℕ) × (frame : List ℕ) × Within line f next run left frame × Told next run frame
+    × (seen .place < length line) × (seen .place < next .place)
 Goes line f seen (Refused refusal) = scanned line ≡ stopped refusal
+
+-- a row's end leaves room for more places
+pub end-small : (line : List ℕ) (f : ℕ) (seen : Seen) (run : Run) (left : ℕ) (frame : List ℕ) → f < 9 → Within line f seen run left frame
+    → seen .end ≤ length line + 164
+end-small line f seen run left frame h w = omega (arith, w .end-is, w .at-is, w .reached, end-within f (bytes seen) h)
 
 -- in a row with bits to come
 module _ (line : List ℕ) (f : ℕ) (seen : Seen) (run : Run) (left : ℕ) (frame : List ℕ) (h : f < 9)
@@ -160,12 +166,8 @@ module _ (line : List ℕ) (f : ℕ) (seen : Seen) (run : Run) (left : ℕ) (fra
   leads : scanned line ≡ rest line seen run frame
   leads = w .leads ∙ ap (λ (v : Verdict). onward v (rest line seen run frame)) (pending-none left frame (seen .place) some)
 
-  ends : (r : Run) (place : ℕ) → scan r frame place [] ≡ stopped (LineLength place)
-  unfolding scan
-  ends r place = rw begun refl
-
   pub missing : length line ≤ seen .place → scanned line ≡ stopped (LineLength (seen .place))
-  missing e = leads ∙ ap (scan run frame (seen .place)) (drop-of-length-le line e) ∙ ends run (seen .place)
+  missing = passing.missing line seen run frame leads begun
 
   -- the bit that must stand next
   pub must-stand : mustBe frame ≡ rowAt f (rowsOf (bytes seen)) .bit
@@ -185,24 +187,14 @@ module _ (line : List ℕ) (f : ℕ) (seen : Seen) (run : Run) (left : ℕ) (fra
           below k l (omega (arith, to, end-within f (bytes seen) h, crc-length (seen .header) (seen .field) (seen .number) k frame e))
       small (behind m g put e l) = below 15 l (omega arith)
 
-  pub end-small : seen .end ≤ length line + 164
-  end-small = omega (arith, w .end-is, w .at-is, w .reached, end-within f (bytes seen) h)
+  within-crc : f ≤ 6 → length frame ≤ crcStart frame + 15
+  within-crc = to-the-crc f (bytes seen) frame known to
 
-  -- up to the CRC a stuff bit is due as the raw bits tell, behind it none is
-  due-told : f ≤ 5 → stuffDue run frame ≡ dueIn (seen .raw)
-  due-told g =
-      due-is f (bytes seen) frame known (w .from) to run ∙ rw (le-ltb 5 f g) (sym (five-told (seen .raw) run (w .told g)))
-
-  none-late : 5 < f → stuffDue run frame ≡ false
-  none-late g = due-is f (bytes seen) frame known (w .from) to run ∙ rw (lt-ltb 5 f g) refl
-
-  -- where one is due, the run is five long and the raw bits are looked at
-  due-five : stuffDue run frame ≡ true → (f ≤ 5) × (run .count ≡ 5)
-  due-five due = go (ltb 5 f) refl (sym (due-is f (bytes seen) frame known (w .from) to run) ∙ due)
-    where
-      go : (t : Bool) → ltb 5 f ≡ t → cond t false (eqb (run .count) 5) ≡ true → (f ≤ 5) × (run .count ≡ 5)
-      go true e d = let z : _≡_ {A = ℕ} 0 1 = cc in absurd (omega arith)
-      go false e d = (ltb-false 5 f e, eqb-true (run .count) 5 d)
+  -- behind the CRC delimiter none is due
+  none-late : 6 < f → stuffDue run frame ≡ false
+  none-late g =
+      due-past run frame
+      (behind-the-crc f (bytes seen) frame known (omega (arith, w .from, slot-from f (bytes seen) g)) (omega arith))
 
   module _ (inside : seen .place < length line) where
     b : ℕ
@@ -210,92 +202,34 @@ module _ (line : List ℕ) (f : ℕ) (seen : Seen) (run : Run) (left : ℕ) (fra
 
     went : (v : Verdict) → verdict run frame (seen .place) b ≡ v
         → scanned line ≡ onward v (scan (runWith run b) (frameWith run frame b) (seen .place + 1) (drop (seen .place + 1) line))
-    unfolding scan b
-    went v d =
-        let here : drop (seen .place) line ≡ b ∷ drop (seen .place + 1) line =
-        drop-cons line (seen .place) 0 inside ∙ ap (λ (k : ℕ). b ∷ drop k line) (sym (add-one (seen .place))) in
-        leads ∙ ap (scan run frame (seen .place)) here
-        ∙ ap (λ (u : Verdict). onward u (scan (runWith run b) (frameWith run frame b) (seen .place + 1) (drop (seen .place + 1) line))) d
+    unfolding b
+    went = passing.went line seen run frame leads begun inside
 
-    -- ---- a stuff bit
+    -- ---- the stuff bit before it
 
-    module _ (due : stuffDue run frame ≡ true) (bit : b ≤ 1) (n : b ≡ run .bit → ⊥) where
-      single : counted run b ≡ 1
-      single = simp (ne-eqb b (run .bit) n)
-
-      stuffed-on : scanned line ≡ scan (runWith run b) frame (seen .place + 1) (drop (seen .place + 1) line)
-      unfolding frameWith
-      stuffed-on = went right (stuff-bit run frame (seen .place) b begun bit due n) ∙ rw due refl
-
-      within-stuff : seen .place + 1 ≤ length line → Within line f (behindStuffBit line seen) (runWith run b) left frame
-      unfolding runWith
-      within-stuff reached =
+    stuffed-goes : (raw : ℕ) → f ≤ 6 → Told seen run frame → (f ≤ 5 → raw ≡ 1 + seen .raw % 2)
+        → Passes line (Ready line f seen left frame) (passed raw line seen)
+    stuffed-goes raw g told same =
+        pass-goes line seen run frame leads begun inside (told (within-crc g)) (within-crc g) raw (Ready line f seen left frame)
+        (λ due. (w, λ few. told (within-crc g), due, rw (w .stop-is) (least-over (seen .end) (length line) (seen .place) (omega (arith, w .end-is)) inside), omega arith))
+        (λ r stuffed. (
           record {
-            leads = rw (pending-none left frame (seen .place + 1) some) stuffed-on;
+            leads = rw (pending-none left frame (seen .place + 1) some) (stuffed .leads);
             end-is = omega (arith, w .end-is);
             stop-is = refl;
             at-is = w .at-is;
             from = w .from;
             data-bits-is = w .data-bits-is;
             registers = w .registers;
-            told = λ g. told-stuff (seen .raw) b run (omega arith) n (due-five due .1) (w .told g);
-            fresh = λ e. absurd (counted-some run b e);
-            reached = reached;
+            fresh = λ e. absurd (omega (arith, stuffed .single));
+            reached = omega (arith, stuffed .inside);
             behind = omega (arith, w .behind);
-          }
-
-      none-due : stuffDue (runWith run b) frame ≡ false
-      unfolding stuffDue runWith
-      none-due = rw single refl
-
-    -- one place on
-    onto : seen .place + 1 ≤ length line
-    onto = omega (arith, inside)
-
-    before : seen .place + 1 < seen .end + 1
-    before = omega (arith, w .end-is)
-
-    along : seen .place ≤ seen .place + 1
-    along = omega arith
-
-    stuff-goes : stuffDue run frame ≡ true → Passes line f seen left frame (stuffBit line seen)
-    unfolding stuffBit b
-    stuff-goes due = byte (ltb 1 b) refl
-      where
-        last : run .bit ≡ seen .raw % 2
-        last = bit-told (seen .raw) run (w .told (due-five due .0)) (due-five due .1)
-
-        longer-line : b ≤ 1 → (b ≡ run .bit → ⊥) → (t : Bool) → leb (length line) (seen .place + 1) ≡ t
-            → Passes line f seen left frame (cond t (Refused (LineLength (seen .place + 1))) (Next (behindStuffBit line seen)))
-        longer-line bit n true d =
-            stuffed-on due bit n ∙ ap (scan (runWith run b) frame (seen .place + 1)) (drop-of-length-le line (leb-true _ _ d))
-            ∙ ends (runWith run b) (seen .place + 1)
-        longer-line bit n false d =
-            (runWith run b, within-stuff due bit n onto, none-due due bit n, least-over _ _ _ before (leb-false _ _ d), along)
-
-        sixth : b ≤ 1 → (t : Bool) → eqb b (seen .raw % 2) ≡ t
-            → Passes line f seen left frame
-            (cond t (Refused (StuffBit (seen .place)))
-            (cond (leb (length line) (seen .place + 1)) (Refused (LineLength (seen .place + 1))) (Next (behindStuffBit line seen))))
-        sixth bit true d = went _ (sixth-bit run frame (seen .place) b begun bit due (eqb-true _ _ d ∙ sym last))
-        sixth bit false d = longer-line bit (λ e. eqb-false _ _ d (e ∙ last)) (leb (length line) (seen .place + 1)) refl
-
-        byte : (t : Bool) → ltb 1 b ≡ t
-            → Passes line f seen left frame
-            (cond t (Refused (LineByte (seen .place)))
-            (cond (eqb b (seen .raw % 2)) (Refused (StuffBit (seen .place)))
-            (cond (leb (length line) (seen .place + 1)) (Refused (LineLength (seen .place + 1))) (Next (behindStuffBit line seen)))))
-        byte true d = went _ (byte-above-1 run frame (seen .place) b begun (ltb-true _ _ d))
-        byte false d = sixth (ltb-false _ _ d) (eqb b (seen .raw % 2)) refl
-
-    pass-goes : f ≤ 5 → Passes line f seen left frame (passed line seen)
-    unfolding passed
-    pass-goes g = go (dueIn (seen .raw)) refl
-      where
-        go : (t : Bool) → dueIn (seen .raw) ≡ t → Passes line f seen left frame (cond t (stuffBit line seen) (Next seen))
-        go true d = stuff-goes (due-told g ∙ d)
-        go false d =
-            (run, w, due-told g ∙ d, rw (w .stop-is) (least-over (seen .end) (length line) (seen .place) (omega (arith, w .end-is)) inside), omega arith)
+          },
+          λ few. subst (λ (k : ℕ). Tells k r) (sym (same few)) (stuffed .told),
+          stuffed .none-due,
+          least-over _ _ _ (omega (arith, w .end-is)) (stuffed .inside),
+          omega arith,
+        ))
 
     -- ---- a bit of the frame
 
@@ -326,24 +260,33 @@ module _ (line : List ℕ) (f : ℕ) (seen : Seen) (run : Run) (left : ℕ) (fra
                 sym (shown-inside f (bytes seen) more (seen .place) (omega (arith, w .from, longer frame b)) (omega (arith, w .at-is, longer frame b))
                 (dlc-known f (seen .header) (seen .field) number more registers))
 
-        told-on : fits (mustBe frame) b ≡ true → f ≤ 5 → Tells (seen .raw * 2 % 2 ^ 64 + b) (runWith run b)
-        told-on n g =
+        told-on : fits (mustBe frame) b ≡ true → f ≤ 6 → Tells (seen .raw) run → Tells (seen .raw * 2 % 2 ^ 64 + b) (runWith run b)
+        told-on n g tells =
             told-more (seen .raw) b run (omega arith)
             (λ e. let zero-is = must-first frame (w .fresh e) in zero-bit zero-is)
-            (λ e. not-five e) (w .told g)
+            (λ e. not-five e) tells
           where
             zero-bit : mustBe frame ≡ 0 → b ≡ 0
             zero-bit e = sym (eqb-true 0 b (rw e at n))
 
             not-five : run .count ≡ 5 → ⊥
-            not-five =
-                eqb-false _ _ (rw (le-ltb 5 f g) at (sym (due-is f (bytes seen) frame known (w .from) to run) ∙ due))
+            not-five = eqb-false _ _ (sym (due-within run frame (within-crc g)) ∙ due)
+
+        -- behind the CRC nothing is told any more
+        untold : (raw : ℕ) → 5 < f → length more ≤ crcStart more + 15 → Tells raw (runWith run b)
+        unfolding more
+        untold raw g few =
+            let registers = added-late g in
+            let over =
+            behind-the-crc f (bytes seen) (frame ++ (b ∷ [])) (dlc-known f (seen .header) (seen .field) (seen .number) (frame ++ (b ∷ [])) registers)
+            (omega (arith, ending-from f (bytes seen) g, w .from, longer frame b)) g in
+            absurd (omega arith)
 
         -- whatever raw bits and number are kept of it
         within-on : (raw number : ℕ) → fits (mustBe frame) b ≡ true → Registers f (seen .header) (seen .field) number more
-            → (f ≤ 5 → Tells raw (runWith run b)) → Within line f (oneOn raw number seen) (runWith run b) (left - 1) more
+            → Within line f (oneOn raw number seen) (runWith run b) (left - 1) more
         unfolding runWith frameWith more
-        within-on raw number n registers told =
+        within-on raw number n registers =
             record {
               leads = rw (pending-is number registers) (went _ (frame-bit run frame (seen .place) b begun bit due n) ∙ rw due refl);
               end-is = omega (arith, w .end-is);
@@ -352,7 +295,6 @@ module _ (line : List ℕ) (f : ℕ) (seen : Seen) (run : Run) (left : ℕ) (fra
               from = omega (arith, w .from, longer frame b);
               data-bits-is = w .data-bits-is;
               registers = registers;
-              told = told;
               fresh = λ e. absurd (counted-some run b e);
               reached = omega (arith, inside);
               behind = omega (arith, w .behind, longer frame b);
@@ -360,7 +302,7 @@ module _ (line : List ℕ) (f : ℕ) (seen : Seen) (run : Run) (left : ℕ) (fra
 
       -- the bit that must stand, or the line is refused; what is kept of it tells the run and the frame's bits
       judged-goes : (must raw number : ℕ) → mustBe frame ≡ must
-          → (b ≤ 1 → fits (mustBe frame) b ≡ true → Registers f (seen .header) (seen .field) number more × (f ≤ 5 → Tells raw (runWith run b)))
+          → (b ≤ 1 → fits (mustBe frame) b ≡ true → Registers f (seen .header) (seen .field) number more × Told (oneOn raw number seen) (runWith run b) more)
           → Goes line f seen (judgedBit must line seen (oneOn raw number seen))
       unfolding judgedBit b
       judged-goes must raw number m kept = byte (ltb 1 b) refl
@@ -373,7 +315,7 @@ module _ (line : List ℕ) (f : ℕ) (seen : Seen) (run : Run) (left : ℕ) (fra
           fixed-goes bit false d = went _ (fixed-bit run frame (seen .place) b begun bit due (same ∙ d))
           fixed-goes bit true d =
               let n = same ∙ d in
-              (runWith run b, left - 1, more, within-on bit raw number n (kept bit n .0) (kept bit n .1), inside, omega arith)
+              (runWith run b, left - 1, more, within-on bit raw number n (kept bit n .0), kept bit n .1, inside, omega arith)
 
           byte : (t : Bool) → ltb 1 b ≡ t
               → Goes line f seen
@@ -381,18 +323,18 @@ module _ (line : List ℕ) (f : ℕ) (seen : Seen) (run : Run) (left : ℕ) (fra
           byte true d = went _ (byte-above-1 run frame (seen .place) b begun (ltb-true _ _ d))
           byte false d = fixed-goes (ltb-false _ _ d) (fits must b) refl
 
-      field-goes : (must : ℕ) → mustBe frame ≡ must → f ≤ 5 → Goes line f seen (fieldBit must line seen)
+      field-goes : (must : ℕ) → mustBe frame ≡ must → f ≤ 5 → Tells (seen .raw) run → Goes line f seen (fieldBit must line seen)
       unfolding b
-      field-goes must m g = judged-goes must _ _ m (λ bit n. (added bit g, told-on bit n))
+      field-goes must m g tells = judged-goes must _ _ m (λ bit n. (added bit g, λ few. told-on bit n (omega arith) tells))
 
-    ending-goes : (must : ℕ) → mustBe frame ≡ must → 5 < f → Goes line f seen (endingBit must line seen)
-    ending-goes must m g = judged-goes (none-late g) must _ _ m (λ bit n. (added-late (none-late g) bit g, λ few. absurd (omega arith)))
+      ending-goes : (must : ℕ) → mustBe frame ≡ must → 5 < f → Goes line f seen (endingBit must line seen)
+      ending-goes must m g = judged-goes must _ _ m (λ bit n. (added-late bit g, untold bit _ g))
 
 -- a bit of the line, where the row's bits must be this one
 pub bit-goes : (line : List ℕ) (f : ℕ) (seen : Seen) (run : Run) (left : ℕ) (frame : List ℕ) → f < 9 → Within line f seen run left frame
-    → seen .place < seen .stop → (must : ℕ) → mustBe frame ≡ must → Goes line f seen (lineBit f must line seen)
-unfolding lineBit
-bit-goes line f seen run left frame h w before must m = late (ltb 5 f) refl
+    → Told seen run frame → seen .place < seen .stop → (must : ℕ) → mustBe frame ≡ must → Goes line f seen (lineBit f must line seen)
+unfolding lineBit endingRow
+bit-goes line f seen run left frame h w told before must m = late (ltb 5 f) refl
   where
     both : (seen .place < seen .end) × (seen .place < length line)
     both = least-both (seen .end) (length line) (seen .place) (rw (w .stop-is) at before)
@@ -400,19 +342,39 @@ bit-goes line f seen run left frame h w before must m = late (ltb 5 f) refl
     some : 0 < left
     some = omega (arith, w .end-is, both .0)
 
-    further : (next : Seen) (s : Step) → seen .place ≤ next .place → seen .place < length line → Goes line f next s → Goes line f seen s
-    further next (Next last) l i g = (g .0, g .1, g .2, g .3, i, omega (arith, g .5))
-    further next (Refused refusal) l i g = g
+    further : (next : Seen) (s : Step) → seen .place ≤ next .place → Goes line f next s → Goes line f seen s
+    further next (Next last) l g = (g .0, g .1, g .2, g .3, g .4, both .1, omega (arith, g .6))
+    further next (Refused refusal) l g = g
 
-    go : f ≤ 5 → (s : Step) → Passes line f seen left frame s → Goes line f seen (andThen s (fieldBit must line))
-    go few (Next next) (r, v, due, l, k) =
+    -- behind a stuff bit, or where none is due
+    field : f ≤ 5 → (s : Step) → Passes line (Ready line f seen left frame) s → Goes line f seen (andThen s (fieldBit must line))
+    field few (Next next) (r, (v, tells, due, l, k)) =
         let inner = least-both (next .end) (length line) (next .place) (rw (v .stop-is) at l) in
-        further next (fieldBit must line next) k (both .1)
-        (field-goes line f next r left frame h v some (inner .1) due must m few)
-    go few (Refused refusal) e = e
+        further next (fieldBit must line next) k
+        (field-goes line f next r left frame h v some (inner .1) due must m few (tells few))
+    field few (Refused refusal) e = e
 
-    late : (t : Bool) → ltb 5 f ≡ t → Goes line f seen (cond t (endingBit must line seen) (andThen (passed line seen) (fieldBit must line)))
-    late true e = ending-goes line f seen run left frame h w some (both .1) must m (ltb-true 5 f e)
+    delimiter : 5 < f → (s : Step) → Passes line (Ready line f seen left frame) s → Goes line f seen (andThen s (endingBit must line))
+    delimiter over (Next next) (r, (v, tells, due, l, k)) =
+        let inner = least-both (next .end) (length line) (next .place) (rw (v .stop-is) at l) in
+        further next (endingBit must line next) k
+        (ending-goes line f next r left frame h v some (inner .1) due must m over)
+    delimiter over (Refused refusal) e = e
+
+    ending : 5 < f → (t : Bool) → ltb 6 f ≡ t
+        → Goes line f seen (cond t (endingBit must line seen) (andThen (passed (seen .raw) line seen) (endingBit must line)))
+    ending over true e =
+        ending-goes line f seen run left frame h w some (both .1)
+        (none-late line f seen run left frame h w some (ltb-true 6 f e)) must m over
+    ending over false e =
+        delimiter over (passed (seen .raw) line seen)
+        (stuffed-goes line f seen run left frame h w some (both .1) (seen .raw) (ltb-false 6 f e) told (λ few. absurd (omega arith)))
+
+    late : (t : Bool) → ltb 5 f ≡ t
+        → Goes line f seen
+        (cond t (endingRow f must line seen) (andThen (passed (1 + seen .raw % 2) line seen) (fieldBit must line)))
+    late true e = ending (ltb-true 5 f e) (ltb 6 f) refl
     late false e =
         let few = ltb-false 5 f e in
-        go few (passed line seen) (pass-goes line f seen run left frame h w some (both .1) few)
+        field few (passed (1 + seen .raw % 2) line seen)
+        (stuffed-goes line f seen run left frame h w some (both .1) (1 + seen .raw % 2) (omega arith) told (λ g. refl))

@@ -1,9 +1,11 @@
 pub mod Verdicts
 pub mod Fitting
 pub mod Partial
+pub mod StuffDue
 pub mod Positions
 pub mod RawBits
 pub mod Registers
 pub mod LineBit
+pub mod Passing
 pub mod Keeping
 pub mod FieldEnds

@@ -1,7 +1,9 @@
 -- The ways of a bit of the line. Assumes nothing.
 --     field-wrong, field-right      a bit up to the CRC: more than the row allows, or not
 --     ending-one, ending-either, ending-wrong    a bit behind the CRC: a 1, a 0 where either may stand, or neither
---     ending-next, passed-next, passed-refused    the next bit of the line, with the stuff bit before it
+--     field-next, field-refused     the next bit of the line up to the CRC, with the stuff bit before it
+--     delimiter-next, delimiter-refused    the CRC delimiter, likewise
+--     ending-next, slot-next        a bit behind the CRC, and one behind its delimiter
 --     passed-inside   behind a stuff bit there is a bit
 use mathlib.Core.Path.{_≡_, refl, ap, _∙_}
 use mathlib.Core.Bool.{Bool, true, false, cond}
@@ -14,7 +16,7 @@ use borrow.Author.Tests.{lt-ltb, le-ltb, leb-false, eqb-true, eqb-false}
 use Rattle.refusals.specs.declared.Refusal.{Refusal}
 use Rattle.refusals.specs.declared.Refusal.the-variants.{LineByte, StuffBit, LineLength, FixedBit}
 use Rattle.scanning.proofs.Fitting.{unfit, fit}
-use Rattle.scanning.specs.Steps.{bitAt, behindStuffBit, dueIn, stuffBit, passed, refusedBit, judgedBit, fieldBit, endingBit, andThen, lineBit}
+use Rattle.scanning.specs.Steps.{bitAt, behindStuffBit, dueIn, stuffBit, passed, refusedBit, judgedBit, fieldBit, endingBit, andThen, endingRow, lineBit}
 use Rattle.scanning.specs.declared.seen.Seen.{Seen}
 use Rattle.scanning.specs.declared.seen.Step.{Step}
 use Rattle.scanning.specs.declared.seen.Step.the-variants.{Next, Refused}
@@ -76,19 +78,19 @@ abbrev Inside : List ℕ → Seen → Step → Type 0
 Inside line seen (Next next) = (next .place < length line) × (next .number ≡ seen .number)
 Inside line seen (Refused refusal) = Unit {0}
 
-inside : (line : List ℕ) (seen : Seen) → seen .place < length line → Inside line seen (passed line seen)
+inside : (raw : ℕ) (line : List ℕ) (seen : Seen) → seen .place < length line → Inside line seen (passed raw line seen)
 unfolding passed stuffBit
-inside line seen h = due (dueIn (seen .raw))
+inside raw line seen h = due (dueIn (seen .raw))
   where
     longer : (t : Bool) → leb (length line) (seen .place + 1) ≡ t
-        → Inside line seen (cond t (Refused (LineLength (seen .place + 1))) (Next (behindStuffBit line seen)))
+        → Inside line seen (cond t (Refused (LineLength (seen .place + 1))) (Next (behindStuffBit raw line seen)))
     longer true e = tt
     longer false e = (leb-false _ _ e, refl)
 
     sixth : (t : Bool)
         → Inside line seen
         (cond t (Refused (StuffBit (seen .place)))
-        (cond (leb (length line) (seen .place + 1)) (Refused (LineLength (seen .place + 1))) (Next (behindStuffBit line seen))))
+        (cond (leb (length line) (seen .place + 1)) (Refused (LineLength (seen .place + 1))) (Next (behindStuffBit raw line seen))))
     sixth true = tt
     sixth false = longer (leb (length line) (seen .place + 1)) refl
 
@@ -96,30 +98,52 @@ inside line seen h = due (dueIn (seen .raw))
         → Inside line seen
         (cond t (Refused (LineByte (seen .place)))
         (cond (eqb (bitAt line seen) (seen .raw % 2)) (Refused (StuffBit (seen .place)))
-        (cond (leb (length line) (seen .place + 1)) (Refused (LineLength (seen .place + 1))) (Next (behindStuffBit line seen)))))
+        (cond (leb (length line) (seen .place + 1)) (Refused (LineLength (seen .place + 1))) (Next (behindStuffBit raw line seen)))))
     byte true = tt
     byte false = sixth (eqb (bitAt line seen) (seen .raw % 2))
 
-    due : (t : Bool) → Inside line seen (cond t (stuffBit line seen) (Next seen))
+    due : (t : Bool) → Inside line seen (cond t (stuffBit raw line seen) (Next seen))
     due true = byte (ltb 1 (bitAt line seen))
     due false = (h, refl)
 
-pub passed-inside : (line : List ℕ) (seen next : Seen) → seen .place < length line → Next next ≡ passed line seen
+pub passed-inside : (raw : ℕ) (line : List ℕ) (seen next : Seen) → seen .place < length line → Next next ≡ passed raw line seen
     → (next .place < length line) × (next .number ≡ seen .number)
-passed-inside line seen next h e = rw (← e) at (inside line seen h)
+passed-inside raw line seen next h e = rw (← e) at (inside raw line seen h)
 
--- the next bit of row f
-pub ending-next : (line : List ℕ) (f must : ℕ) (seen : Seen) → 5 < f → endingBit must line seen ≡ lineBit f must line seen
+-- the next bit of row f, behind the CRC delimiter
+pub ending-next : (line : List ℕ) (f must : ℕ) (seen : Seen) → 5 < f → endingRow f must line seen ≡ lineBit f must line seen
 unfolding lineBit
 ending-next line f must seen h = rw (lt-ltb 5 f h) refl
 
+pub slot-next : (line : List ℕ) (f must : ℕ) (seen : Seen) → 6 < f → endingBit must line seen ≡ endingRow f must line seen
+unfolding endingRow
+slot-next line f must seen h = rw (lt-ltb 6 f h) refl
+
+-- of a step behind which this bit is read
+then-next : (s : Step) (bit : Seen → Step) (next : Seen) → Next next ≡ s → bit next ≡ andThen s bit
+then-next s bit next e = ap (λ (t : Step). andThen t bit) e
+
+then-refused : (s : Step) (bit : Seen → Step) (refusal : Refusal) → Refused refusal ≡ s → Refused refusal ≡ andThen s bit
+then-refused s bit refusal e = ap (λ (t : Step). andThen t bit) e
+
+module _ (line : List ℕ) (f must : ℕ) (seen : Seen) (h : f ≤ 6) where
+  delimiter-is : andThen (passed (seen .raw) line seen) (endingBit must line) ≡ endingRow f must line seen
+  unfolding endingRow
+  delimiter-is = rw (le-ltb 6 f h) refl
+
+  pub delimiter-next : (next : Seen) → Next next ≡ passed (seen .raw) line seen → endingBit must line next ≡ endingRow f must line seen
+  delimiter-next next e = then-next _ (endingBit must line) next e ∙ delimiter-is
+
+  pub delimiter-refused : (refusal : Refusal) → Refused refusal ≡ passed (seen .raw) line seen → Refused refusal ≡ endingRow f must line seen
+  delimiter-refused refusal e = then-refused _ (endingBit must line) refusal e ∙ delimiter-is
+
 module _ (line : List ℕ) (f must : ℕ) (seen : Seen) (h : f ≤ 5) where
-  next-is : andThen (passed line seen) (fieldBit must line) ≡ lineBit f must line seen
+  field-is : andThen (passed (1 + seen .raw % 2) line seen) (fieldBit must line) ≡ lineBit f must line seen
   unfolding lineBit
-  next-is = rw (le-ltb 5 f h) refl
+  field-is = rw (le-ltb 5 f h) refl
 
-  pub passed-next : (next : Seen) → Next next ≡ passed line seen → fieldBit must line next ≡ lineBit f must line seen
-  passed-next next e = ap (λ (s : Step). andThen s (fieldBit must line)) e ∙ next-is
+  pub field-next : (next : Seen) → Next next ≡ passed (1 + seen .raw % 2) line seen → fieldBit must line next ≡ lineBit f must line seen
+  field-next next e = then-next _ (fieldBit must line) next e ∙ field-is
 
-  pub passed-refused : (refusal : Refusal) → Refused refusal ≡ passed line seen → Refused refusal ≡ lineBit f must line seen
-  passed-refused refusal e = ap (λ (s : Step). andThen s (fieldBit must line)) e ∙ next-is
+  pub field-refused : (refusal : Refusal) → Refused refusal ≡ passed (1 + seen .raw % 2) line seen → Refused refusal ≡ lineBit f must line seen
+  field-refused refusal e = then-refused _ (fieldBit must line) refusal e ∙ field-is

@@ -2,28 +2,26 @@
 --     startOf, endOf    the positions of field f's first bit and of the one behind its last, where the frame has n data bytes
 --     next-start        a field starts where the one before it ends
 --     end-some, header-end, data-end, crc-end, end-within    how far fields reach
---     first-start, data-start, data-from, ending-from, frame-end    and from where on
+--     first-start, data-start, data-from, ending-from, slot-from, frame-end    and from where on
 --     Stage, stage      which part of the frame a field is in
 --     early-or-known    where the DLC is not known yet, nothing hangs on it
 --     must-is           the bit that must stand next is the field's
---     dueAt, due-is     a stuff bit is due as the row says
+--     to-the-crc, behind-the-crc    the frame's bits do not reach behind the CRC, or they do
 --     not-complete      in a field the frame is not complete
 use mathlib.Core.Path.{_≡_, refl, sym, ap, _∙_, subst}
-use mathlib.Core.Bool.{Bool, true, false, cond, _&&_, and-true, and-false}
+use mathlib.Core.Bool.{Bool, true, false}
 use mathlib.Core.List.{List, [], _∷_}
 use mathlib.Core.Logic.{_⊎_, inl, inr}
 use Prim.Native.Nat.{ℕ, zero, suc, _+_, _-_, _*_, _≤_, _<_}
 use native.Mathlib.Nat.{zero-add, suc-add}
 use native.Mathlib.Numerals.{add-one}
 use native.Mathlib.Omega.{arith}
-use lib.Dec.{eqb, leb, ltb}
+use lib.Dec.{eqb, ltb}
 use lib.ListN.{length, getD, replicate, length-replicate, getD-replicate, List·getD-append}
 use lib.Seq.{getD-append-add}
-use borrow.Author.Tests.{le-leb, lt-leb, ne-eqb, ltb-true, ltb-false, eqb-true, eqb-false}
-use Rattle.bits.specs.declared.Run.{Run}
-use Rattle.frame.specs.Line.{stuffedCrcBits}
+use borrow.Author.Tests.{ne-eqb, ltb-true, ltb-false, eqb-true, eqb-false}
 use Rattle.scanning.specs.Form.{either, form}
-use Rattle.scanning.specs.Scan.{dlcIn, crcStart, complete, stuffDue, mustBe}
+use Rattle.scanning.specs.Scan.{dlcIn, crcStart, complete, mustBe}
 use Rattle.scanning.specs.Steps.{fixedRow, rowsOf, formOf}
 use Rattle.scanning.specs.declared.fields.Field.{Field}
 use Rattle.scanning.proofs.Partial.{must-early}
@@ -106,6 +104,9 @@ frame-end n = omega arith
 pub data-from : (f n : ℕ) → 3 < f → 19 ≤ startOf f n
 data-from f n h = omega (arith, later 4 f n h, data-start n)
 
+pub slot-from : (f n : ℕ) → 6 < f → 35 + 8 * n ≤ startOf f n
+slot-from f n h = omega (arith, later 7 f n h, slot-start n)
+
 pub ending-from : (f n : ℕ) → 5 < f → 34 + 8 * n ≤ startOf f n
 ending-from f n h = omega (arith, later 6 f n h, ending-start n)
 
@@ -124,6 +125,10 @@ data-end f n h = omega (arith, later (suc f) 5 n (omega arith), crc-start n)
 pub crc-end : (f n : ℕ) → f ≤ 5 → endOf f n ≤ 34 + 8 * n
 unfolding endOf
 crc-end f n h = omega (arith, later (suc f) 6 n (omega arith), ending-start n)
+
+delimiter-end : (f n : ℕ) → f ≤ 6 → endOf f n ≤ 35 + 8 * n
+unfolding endOf
+delimiter-end f n h = omega (arith, later (suc f) 7 n (omega arith), slot-start n)
 
 pub end-within : (f n : ℕ) → f < 9 → endOf f n ≤ 44 + 8 * n
 unfolding endOf
@@ -185,10 +190,6 @@ rows-form : (n : ℕ) → formOf (rowsOf n) ≡ form n
 unfolding form formOf rowsOf
 rows-form n = refl
 
--- where a stuff bit is due, by the run
-abbrev pub dueAt : ℕ → Run → Bool
-dueAt f run = cond (ltb 5 f) false (eqb (run .count) 5)
-
 -- a frame that reaches into field f, or up to its end; the DLC is known behind the header
 module _ (f n : ℕ) (frame : List ℕ) (known : 3 < f → dlcIn frame ≡ n) where
   pub early-or-known : length frame < endOf f n → (length frame < 19) ⊎ (dlcIn frame ≡ n)
@@ -197,6 +198,18 @@ module _ (f n : ℕ) (frame : List ℕ) (known : 3 < f → dlcIn frame ≡ n) wh
       go : (t : Bool) → ltb 3 f ≡ t → (length frame < 19) ⊎ (dlcIn frame ≡ n)
       go true e = inr (known (ltb-true 3 f e))
       go false e = inl (omega (arith, to, header-end f n (ltb-false 3 f e)))
+
+  pub to-the-crc : length frame < endOf f n → f ≤ 6 → length frame ≤ crcStart frame + 15
+  unfolding crcStart
+  to-the-crc to g = go (early-or-known to)
+    where
+      go : (length frame < 19) ⊎ (dlcIn frame ≡ n) → length frame ≤ 19 + 8 * dlcIn frame + 15
+      go (inl e) = omega arith
+      go (inr e) = omega (arith, to, delimiter-end f n g)
+
+  pub behind-the-crc : 34 + 8 * n < length frame → 5 < f → crcStart frame + 15 < length frame
+  unfolding crcStart
+  behind-the-crc over g = omega (arith, known (omega arith))
 
   module _ (from : startOf f n ≤ length frame) (to : length frame < endOf f n) where
     pub must-is : mustBe frame ≡ rowAt f (rowsOf n) .bit
@@ -215,25 +228,6 @@ module _ (f n : ℕ) (frame : List ℕ) (known : 3 < f → dlcIn frame ≡ n) wh
             let sum : startOf f n + (p - startOf f n) ≡ p = omega (arith, from) in
             subst (λ (k : ℕ). getD (formOf (rowsOf n)) k either ≡ rowAt f (rowsOf n) .bit) sum
             (form-at f (rowsOf n) (p - startOf f n) (omega (arith, from, to, end-is f n)))
-
-    pub due-is : (run : Run) → stuffDue run frame ≡ dueAt f run
-    unfolding stuffDue crcStart
-    due-is run = go (ltb 5 f) refl
-      where
-        last : ℕ
-        last = 19 + 8 * dlcIn frame + stuffedCrcBits
-
-        within : f ≤ 5 → (length frame < 19) ⊎ (dlcIn frame ≡ n) → length frame ≤ last
-        within g (inl e) = omega arith
-        within g (inr e) = omega (arith, to, crc-end f n g)
-
-        go : (t : Bool) → ltb 5 f ≡ t → (eqb (run .count) 5 && leb (length frame) last) ≡ cond t false (eqb (run .count) 5)
-        go true e =
-            let over = ltb-true 5 f e in
-            let past : last < length frame = omega (arith, from, ending-from f n over, known (omega arith)) in
-            rw (lt-leb (length frame) last past) (and-false (eqb (run .count) 5))
-        go false e =
-            rw (le-leb (length frame) last (within (ltb-false 5 f e) (early-or-known to))) (and-true (eqb (run .count) 5))
 
     pub not-complete : f < 9 → complete frame ≡ false
     unfolding complete crcStart

@@ -11,7 +11,6 @@ use Rattle.bits.specs.Stuffing.{nothingSent, counted}
 use Rattle.refusals.specs.declared.Refusal.{Refusal}
 use Rattle.refusals.specs.declared.Refusal.the-variants.{FieldLength, LineByte, StuffBit, LineLength, Crc, FixedBit}
 use Rattle.crc.specs.Crc.{crc}
-use Rattle.frame.specs.Line.{stuffedCrcBits}
 use Rattle.scanning.specs.Form.{either, form, fits}
 
 -- the identifier among the frame's bits [12.17]
@@ -30,9 +29,9 @@ crcStart frame = 19 + 8 * dlcIn frame
 unfoldable pub complete : List ℕ → Bool
 complete frame = eqb (length frame) (crcStart frame + 25)
 
--- after five equal bits a stuff bit is due, up to the last CRC bit that one may follow [12.4]
+-- after five equal bits a stuff bit is due, as long as the last of them is no later than the last CRC bit [12.4]
 unfoldable pub stuffDue : Run → List ℕ → Bool
-stuffDue run frame = eqb (run .count) 5 && leb (length frame) (crcStart frame + stuffedCrcBits)
+stuffDue run frame = eqb (run .count) 5 && leb (length frame) (crcStart frame + 15)
 
 -- the bit that must stand next; 2 where either may [12.6, 12.12]
 unfoldable pub mustBe : List ℕ → ℕ

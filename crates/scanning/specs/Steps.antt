@@ -51,18 +51,18 @@ least a b = cond (ltb a b) a b
 abbrev pub bitAt : List ℕ → Seen → ℕ
 bitAt line seen = getD line (seen .place) 0
 
--- five equal bits end the raw bits: up to the CRC a stuff bit is due
+-- five equal bits end the raw bits: to the last CRC bit a stuff bit is due
 unfoldable pub dueIn : ℕ → Bool
 dueIn raw = ltb ((raw % 32 + 1) % 32) 2
 
--- what is seen behind a stuff bit
-abbrev pub behindStuffBit : List ℕ → Seen → Seen
-behindStuffBit line seen =
+-- what is seen behind a stuff bit, with these raw bits
+abbrev pub behindStuffBit : ℕ → List ℕ → Seen → Seen
+behindStuffBit raw line seen =
     record {
       stop = least (seen .end + 1) (length line);
       end = seen .end + 1;
       place = seen .place + 1;
-      raw = 1 + seen .raw % 2;
+      raw = raw;
       number = seen .number;
       header = seen .header;
       field = seen .field;
@@ -91,16 +91,16 @@ abbrev pub behindEnding : Seen → Seen
 behindEnding seen = oneOn (seen .raw) (seen .number) seen
 
 -- a bit where a stuff bit is due
-unfoldable pub stuffBit : List ℕ → Seen → Step
-stuffBit line seen =
+unfoldable pub stuffBit : ℕ → List ℕ → Seen → Step
+stuffBit raw line seen =
     cond (ltb 1 (bitAt line seen)) (Refused (LineByte (seen .place)))
     (cond (eqb (bitAt line seen) (seen .raw % 2)) (Refused (StuffBit (seen .place)))
     (cond (leb (length line) (seen .place + 1)) (Refused (LineLength (seen .place + 1)))
-    (Next (behindStuffBit line seen))))
+    (Next (behindStuffBit raw line seen))))
 
 -- what is seen before the next bit: behind the stuff bit, where one is due
-unfoldable pub passed : List ℕ → Seen → Step
-passed line seen = cond (dueIn (seen .raw)) (stuffBit line seen) (Next seen)
+unfoldable pub passed : ℕ → List ℕ → Seen → Step
+passed raw line seen = cond (dueIn (seen .raw)) (stuffBit raw line seen) (Next seen)
 
 -- a bit that is refused: one where the other must stand, or a byte that is none
 unfoldable pub refusedBit : ℕ → ℕ → ℕ → Step
@@ -124,9 +124,14 @@ abbrev pub andThen : Step → (Seen → Step) → Step
 andThen (Next seen) next = next seen
 andThen (Refused refusal) next = Refused refusal
 
+-- the next bit of a row behind the CRC; before that of the first row, the CRC delimiter, a stuff bit may stand
+unfoldable pub endingRow : ℕ → ℕ → List ℕ → Seen → Step
+endingRow f must line seen = cond (ltb 6 f) (endingBit must line seen) (andThen (passed (seen .raw) line seen) (endingBit must line))
+
 -- the next bit of row f, and the stuff bit before it
 unfoldable pub lineBit : ℕ → ℕ → List ℕ → Seen → Step
-lineBit f must line seen = cond (ltb 5 f) (endingBit must line seen) (andThen (passed line seen) (fieldBit must line))
+lineBit f must line seen =
+    cond (ltb 5 f) (endingRow f must line seen) (andThen (passed (1 + seen .raw % 2) line seen) (fieldBit must line))
 
 -- behind the last bit of the DLC: 3, or the header is whole
 unfoldable pub headerRead : Seen → Step

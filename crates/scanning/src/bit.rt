@@ -2,7 +2,7 @@
 ghost use mathlib.Core.Path.{_≡_};
 ghost use Prim.Native.Nat.{_+_, _%_, _≤_, _<_, _^_};
 ghost use lib.ListN.{length};
-ghost use Rattle.scanning.specs.Steps.{refusedBit, behindBit, behindEnding, endingBit, fieldBit, lineBit};
+ghost use Rattle.scanning.specs.Steps.{refusedBit, behindBit, behindEnding, endingBit, endingRow, fieldBit, lineBit};
 use crate::fields;
 use crate::seen::Seen;
 use crate::seen::Step;
@@ -10,16 +10,31 @@ use crate::stuffing;
 use refusals::Refusal;
 
 // Reads the next bit of the field numbered `field`, whose bits must be `must`, where that is 0 or 1; and the stuff bit before it where
-// one is due. Behind the last CRC bit none is.
+// one is due.
 pub(crate) fn next(line: &[u8], field: usize, must: u8, seen: Seen) -> Step
     requires { ⌜ (seen .place < length (now line)) × (seen .end < 2 ^ 63 + 256) × (seen .number < 2 ^ 63) × (must ≤ 2) × (field ≤ 5 → must % 2 ≡ 0) × (5 < field → 0 < must) ⌝ }
     ensures { λ r. ⌜ r ≡ lineBit field must (now (line .entry)) seen ⌝ }
 {
     if fields::CRC < field {
+        return ending(line, field, must, seen);
+    }
+    // The stuff bit and, before it, a bit of the other value.
+    match stuffing::pass(line, 1 + seen.raw % 2, seen) {
+        Step::Next(next) => field_bit(line, must, next),
+        Step::Refused(refusal) => Step::Refused(refusal),
+    }
+}
+
+// A bit behind the CRC. Before the first, the CRC delimiter, a stuff bit may stand; then nothing asks for the raw bits any more.
+fn ending(line: &[u8], field: usize, must: u8, seen: Seen) -> Step
+    requires { ⌜ (seen .place < length (now line)) × (seen .end < 2 ^ 63 + 256) × (must ≤ 2) × (0 < must) ⌝ }
+    ensures { λ r. ⌜ r ≡ endingRow field must (now (line .entry)) seen ⌝ }
+{
+    if fields::CRC_DELIMITER < field {
         return ending_bit(line, must, seen);
     }
-    match stuffing::pass(line, seen) {
-        Step::Next(next) => field_bit(line, must, next),
+    match stuffing::pass(line, seen.raw, seen) {
+        Step::Next(next) => ending_bit(line, must, next),
         Step::Refused(refusal) => Step::Refused(refusal),
     }
 }
@@ -50,7 +65,7 @@ fn wrong(must: u64, bit: u64, place: usize) -> Step
     Step::Refused(Refusal::LineByte(place))
 }
 
-// A bit behind the CRC, where none must be 0. Nothing asks for these bits any more.
+// A bit behind the CRC and its stuff bit, where none must be 0. Nothing asks for these bits any more.
 fn ending_bit(line: &[u8], must: u8, seen: Seen) -> Step
     requires { ⌜ (seen .place < length (now line)) × (must ≤ 2) × (0 < must) ⌝ }
     ensures { λ r. ⌜ r ≡ endingBit must (now (line .entry)) seen ⌝ }

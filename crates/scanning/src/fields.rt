@@ -19,6 +19,8 @@ pub(crate) const DATA: usize = 4;
 
 pub(crate) const CRC: usize = 5;
 
+pub(crate) const CRC_DELIMITER: usize = 6;
+
 const FIELDS: [Field; 9] = [
     Field { bits: 1, bit: 0 }, // start of frame
     Field { bits: 11, bit: 2 }, // identifier

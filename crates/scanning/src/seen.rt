@@ -9,7 +9,7 @@ pub(crate) struct Seen {
     pub end: usize,
     // The place of the next bit.
     pub place: usize,
-    // The bits read last, stuff bits too, up to the CRC: the five lowest show whether a stuff bit is due.
+    // The bits read last, stuff bits too, to the last CRC bit: the five lowest show whether a stuff bit is due.
     pub raw: u64,
     // The bits of the present part, without stuff bits: of the header, of the data field, or of the CRC.
     pub number: u64,

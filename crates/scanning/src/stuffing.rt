@@ -8,13 +8,13 @@ use crate::seen::Seen;
 use crate::seen::Step;
 use refusals::Refusal;
 
-// What is seen behind the stuff bit that is due before the next bit; where none is due, what was seen.
-pub(crate) fn pass(line: &[u8], seen: Seen) -> Step
+// What is seen behind the stuff bit that is due before the next bit, the raw bits then being `raw`; where none is due, what was seen.
+pub(crate) fn pass(line: &[u8], raw: u64, seen: Seen) -> Step
     requires { ⌜ (seen .place < length (now line)) × (seen .end < 2 ^ 63 + 256) ⌝ }
-    ensures { λ r. ⌜ r ≡ passed (now (line .entry)) seen ⌝ }
+    ensures { λ r. ⌜ r ≡ passed raw (now (line .entry)) seen ⌝ }
 {
     if is_due(seen.raw) {
-        return stuff_bit(line, seen);
+        return stuff_bit(line, raw, seen);
     }
     Step::Next(seen)
 }
@@ -28,9 +28,9 @@ fn is_due(raw: u64) -> bool
 }
 
 // A bit where a stuff bit is due: it must not be the sixth of six equal bits, and a bit of the field must follow.
-fn stuff_bit(line: &[u8], seen: Seen) -> Step
+fn stuff_bit(line: &[u8], raw: u64, seen: Seen) -> Step
     requires { ⌜ (seen .place < length (now line)) × (seen .end < 2 ^ 63 + 256) ⌝ }
-    ensures { λ r. ⌜ r ≡ stuffBit (now (line .entry)) seen ⌝ }
+    ensures { λ r. ⌜ r ≡ stuffBit raw (now (line .entry)) seen ⌝ }
 {
     let place = seen.place;
     let bit = line[place] as u64;
@@ -48,7 +48,6 @@ fn stuff_bit(line: &[u8], seen: Seen) -> Step
     next.stop = places::least(end, line.len());
     next.end = end;
     next.place = place + 1;
-    // The stuff bit and, before it, a bit of the other value.
-    next.raw = 1 + seen.raw % 2;
+    next.raw = raw;
     Step::Next(next)
 }

@@ -1,7 +1,7 @@
 -- `frame::length::of` meets its contract: the bits beside the stuff bits, and the stuff bits that the calls counted. Assumes nothing.
 use mathlib.Core.Path.{_≡_, sym, ap, ap₂, _∙_}
 use mathlib.Core.List.{_++_}
-use Prim.Native.Nat.{ℕ, _+_, _/_, _^_, _<_}
+use Prim.Native.Nat.{ℕ, _+_, _^_, _<_}
 use native.Mathlib.Omega.{arith}
 use borrow.Author.Needs.{needs}
 use Rattle.bits.specs.declared.Run.{Run}
@@ -74,7 +74,7 @@ returns c =
     c .before .before .before .before .behind .ensures .0 ∙ ap (λ (r : Run). runAfterRow r (dataBits p)) (header counted .0) in
     let sent : c .before .before .check .result ≡ quietCheck x =
     c .before .before .check .ensures ∙ ap quietCheck (checked (c .before .before .before .before .before .before .before .before .before) .0) in
-    let check : c .before .count2 .result .drawn ≡ stuffCount (dataRun (headerBits p) (dataBits p)) (bits 14 (x / 2)) =
+    let check : c .before .count2 .result .drawn ≡ stuffCount (dataRun (headerBits p) (dataBits p)) (bits 15 x) =
     c .before .count2 .ensures .drawn-is
     ∙ ap₂ (λ (r : Run) (n : ℕ). stuffCount r (bits 16 n)) behind sent ∙ check-drawn (dataRun (headerBits p) (dataBits p)) x in
     c .total .ensures ∙ rw (header counted .1, check) (sym (quiet-length p (start .pre)))

@@ -20,18 +20,12 @@ stuffed-requires c κs =
       rw (c .before .check .ensures) (omega (arith, start .pre .4, room .0, room .1)),
     )
 
-mul-plain : tie.Need-mul-plain
-mul-plain c = search needs
-
-add-plain : tie.Need-add-plain
-add-plain c = search needs
-
 sub-plain : tie.Need-sub-plain
 sub-plain c =
     let start = c .before .before .before .before .before .before .before in
     let room = tail-room (runOf (start .args .spot .last)) (start .args .crc) in
     let written = rw (c .before .before .before .before .before .check .ensures) at (c .before .before .before .stuffed .ensures) in
-    omega (arith, written .at-is, room .0)
+    omega (arith, written .at-is, room .0, room .2)
 
 plain-requires : tie.Need-plain-requires
 plain-requires c κs =
@@ -56,8 +50,6 @@ tail-spec =
     (tie.spec
     check-requires
     stuffed-requires
-    mul-plain
-    add-plain
     sub-plain
     plain-requires
     same-length

@@ -3,19 +3,22 @@ use mathlib.Core.Path.{_∙_, sym}
 use Prim.Native.Nat.{_<_}
 use native.Mathlib.Omega.{arith}
 use borrow.Author.Needs.{needs}
-use Rattle.scanning.proofs.LineBit.{ending-next, passed-inside, passed-next, passed-refused}
+use Rattle.scanning.proofs.LineBit.{ending-next, passed-inside, field-next, field-refused}
 use Rattle.scanning.proofs.bit.next.Statement.{statement}
 use Rattle.scanning.proofs.bit.next.Tie as tie
 
-ending-bit-requires : tie.Need-ending-bit-requires
-ending-bit-requires c κs =
+ending-requires : tie.Need-ending-requires
+ending-requires c κs =
     let pre = c .before .before .pre in
-    (pre .0, pre .3, pre .5 (omega (arith, c .if1 .taken)))
+    (pre .0, pre .1, pre .3, pre .5 (omega (arith, c .if1 .taken)))
 
 returns : tie.Need-returns
 returns c =
     let late : 5 < c .before .before .before .args .field = omega (arith, c .before .if1 .taken) in
-    c .ending-bit .ensures ∙ ending-next _ _ _ _ late
+    c .ending .ensures ∙ ending-next _ _ _ _ late
+
+add-pass : tie.Need-add-pass
+add-pass c = search needs
 
 pass-requires : tie.Need-pass-requires
 pass-requires c κs = search needs
@@ -25,9 +28,9 @@ enum-known-next c = search needs
 
 field-bit-requires : tie.Need-field-bit-requires
 field-bit-requires c κs =
-    let at = c .before .before .before .before in
+    let at = c .before .before .before .before .before in
     let pre = at .before .before .pre in
-    let inside = passed-inside _ _ _ (pre .0) (sym (c .before .next .given .1) ∙ c .before .before .before .pass .ensures) in
+    let inside = passed-inside _ _ _ _ (pre .0) (sym (c .before .next .given .1) ∙ c .before .before .before .pass .ensures) in
     (inside .0, omega (arith, inside .1, pre .2), pre .3, pre .4 (at .if1 .left))
 
 enum-known-refusal : tie.Need-enum-known-refusal
@@ -37,19 +40,20 @@ returns-2 : tie.Need-returns-2
 returns-2 c =
     let at = c .before .before .before .before in
     c .field-bit .ensures
-    ∙ passed-next _ _ _ _ (at .before .if1 .left) _ (sym (c .before .before .next .given .1) ∙ at .pass .ensures)
+    ∙ field-next _ _ _ _ (at .before .before .if1 .left) _ (sym (c .before .before .next .given .1) ∙ at .pass .ensures)
 
 returns-3 : tie.Need-returns-3
 returns-3 c =
     let at = c .before .before .before in
-    passed-refused _ _ _ _ (at .before .if1 .left) _ (sym (c .before .refusal .given .1) ∙ at .pass .ensures)
+    field-refused _ _ _ _ (at .before .before .if1 .left) _ (sym (c .before .refusal .given .1) ∙ at .pass .ensures)
 
 pub next-spec : {M : Type 1} → statement M
 next-spec =
     tie.close
     (tie.spec
-    ending-bit-requires
+    ending-requires
     returns
+    add-pass
     pass-requires
     enum-known-next
     field-bit-requires

@@ -23,8 +23,8 @@ returns-2 c = simp (le-ltb _ _ (c .before .before .if1 .left), eq-eqb _ _ (c .if
 add-if3 : tie.Need-add-if3
 add-if3 c = search needs
 
-add-t15 : tie.Need-add-t15
-add-t15 c = search needs
+add-t16 : tie.Need-add-t16
+add-t16 c = search needs
 
 returns-3 : tie.Need-returns-3
 unfolding stuffBit
@@ -39,14 +39,11 @@ least-requires c κs = search needs
 add-next : tie.Need-add-next
 add-next c = search needs
 
-add-next-2 : tie.Need-add-next-2
-add-next-2 c = search needs
-
 returns-4 : tie.Need-returns-4
 unfolding stuffBit
 returns-4 c =
-    let at = c .before .before .before in
-    simp (le-ltb _ _ (at .before .before .before .if1 .left), ne-eqb _ _ (at .before .if2 .left), lt-leb _ _ (at .if3 .left), c .before .least .ensures)
+    let at = c .before .before in
+    simp (le-ltb _ _ (at .before .before .before .if1 .left), ne-eqb _ _ (at .before .if2 .left), lt-leb _ _ (at .if3 .left), c .least .ensures)
 
 pub stuff-bit-spec : {M : Type 1} → statement M
 stuff-bit-spec =
@@ -57,10 +54,9 @@ stuff-bit-spec =
     returns
     returns-2
     add-if3
-    add-t15
+    add-t16
     returns-3
     add-end
     least-requires
     add-next
-    add-next-2
     returns-4)

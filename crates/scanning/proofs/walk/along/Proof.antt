@@ -1,5 +1,5 @@
 -- `scanning::walk::along` meets its contract: what is left of the line leads to the answer of the whole. Assumes nothing.
-use mathlib.Core.Path.{_≡_, sym, ap, _∙_, subst}
+use mathlib.Core.Path.{sym, ap, _∙_, subst}
 use mathlib.Core.List.{List, []}
 use Prim.Native.Nat.{ℕ, _+_, _-_, _≤_, _<_}
 use native.Mathlib.Omega.{arith}
@@ -7,17 +7,16 @@ use lib.ListN.{length}
 use borrow.Author.Needs.{needs}
 use Rattle.bits.specs.declared.Run.{Run}
 use Rattle.bits.specs.Stuffing.{nothingSent}
-use Rattle.scanning.specs.Steps.{rowsOf}
 use Rattle.scanning.specs.declared.fields.Field.{Field}
 use Rattle.scanning.proofs.Positions.{rowAt, end-is, end-some, end-within}
-use Rattle.scanning.proofs.Keeping.{bytes, Between, Within, least-both, Goes, must-stand, number-small, end-small, bit-goes}
+use Rattle.scanning.proofs.Keeping.{bytes, Told, Between, Within, least-both, Goes, must-stand, number-small, end-small, bit-goes}
 use Rattle.scanning.proofs.FieldEnds.{Ends, row-width, bit-is, row-bits, line-begins, field-begins, field-ends, line-longer, line-read}
 use Rattle.scanning.proofs.walk.along.Statement.{statement}
 use Rattle.scanning.proofs.walk.along.Tie as tie
 
 abbrev Inv-loop : tie.InvT-loop
 Inv-loop line fields seen₀ i field seen =
-    (i < 9) × ((frame : List ℕ) × (run : Run) × (left : ℕ) × Within line i seen run left frame)
+    (i < 9) × ((frame : List ℕ) × (run : Run) × (left : ℕ) × Within line i seen run left frame × Told seen run frame)
 
 abbrev μ-loop : tie.MeasureT-loop
 μ-loop line fields seen₀ i field seen = length line - seen .place
@@ -75,7 +74,7 @@ loop-holds c =
     let width = row-width _ i (bytes (l .seen)) (l .seen .«data_bits») (table .ensures) (l .inv .1 .2 .data-bits-is) in
     let within = field-begins _ i (l .seen) (l .inv .1 .1) (l .inv .1 .0) _ _ h width (l .inv .1 .2) in
     let left = rowAt i (table .result) .bits + l .seen .«data_bits» in
-    (h, (l .inv .1 .0, l .inv .1 .1, left, rw (c .least .ensures) within))
+    (h, (l .inv .1 .0, l .inv .1 .1, left, rw (c .least .ensures) within, l .inv .1 .2 .told))
 
 -- in the inner loop: the bit that must stand, and room for one more
 next-requires : tie.Need-next-requires Inv-loop μ-loop Inv-line μ-line
@@ -86,7 +85,7 @@ next-requires c κs =
     let w = l .inv .1 .3 in
     let both = least-both _ _ _ (rw (w .stop-is) at (c .if3 .taken)) in
     let some : 0 < l .inv .1 .2 = omega (arith, w .end-is, both .0) in
-    let small = end-small _ i (l .seen) (l .inv .1 .1) (l .inv .1 .2) (l .inv .1 .0) (l .inv .0) w some in
+    let small = end-small _ i (l .seen) (l .inv .1 .1) (l .inv .1 .2) (l .inv .1 .0) (l .inv .0) w in
     let row = row-bits i (l .inv .0) in
     let table = ap (λ (rows : List Field). rowAt i rows .bit) (start .before .all .ensures) in (
       both .1,
@@ -116,7 +115,7 @@ goes c =
     must-stand line i (l .seen) (l .inv .1 .1) (l .inv .1 .2) (l .inv .1 .0) (l .inv .0) w some
     ∙ sym (ap (λ (rows : List Field). rowAt i rows .bit) (start .before .all .ensures) ∙ bit-is i (bytes (l .seen))) in
     subst (Goes line i (l .seen)) (sym (c .next .ensures))
-    (bit-goes line i (l .seen) (l .inv .1 .1) (l .inv .1 .2) (l .inv .1 .0) (l .inv .0) w before _ must)
+    (bit-goes line i (l .seen) (l .inv .1 .1) (l .inv .1 .2) (l .inv .1 .0) (l .inv .0) w (l .inv .1 .4) before _ must)
 
 enum-known-next : tie.Need-enum-known-next Inv-loop μ-loop Inv-line μ-line
 enum-known-next c = search needs
@@ -124,13 +123,13 @@ enum-known-next c = search needs
 loop-less : tie.Need-loop-less Inv-loop μ-loop Inv-line μ-line
 loop-less c =
     let next = subst (Goes _ _ _) (c .before .next2 .given .1) (goes (c .before .before .before)) in
-    omega (arith, next .4, next .5)
+    omega (arith, next .5, next .6)
 
 loop-again : tie.Need-loop-again Inv-loop μ-loop Inv-line μ-line
 loop-again c =
     let at = c .before .before .before in
     let next = subst (Goes _ _ _) (c .before .next2 .given .1) (goes at) in
-    (at .before .before .before .loop .inv .0, (next .2, next .0, next .1, next .3))
+    (at .before .before .before .loop .inv .0, (next .2, next .0, next .1, next .3, next .4))
 
 enum-known-refusal : tie.Need-enum-known-refusal Inv-loop μ-loop Inv-line μ-line
 enum-known-refusal c = search needs
@@ -153,7 +152,7 @@ ends c =
     let l = at .loop in
     let i = at .before .before .before .before .before .before .before .line .i in
     subst (Ends _ _ _ _) (sym (c .judge .ensures))
-    (field-ends _ i (l .seen) (l .inv .1 .1) (l .inv .1 .2) (l .inv .1 .0) (l .inv .0) (l .inv .1 .3) (c .before .if3 .left))
+    (field-ends _ i (l .seen) (l .inv .1 .1) (l .inv .1 .2) (l .inv .1 .0) (l .inv .0) (l .inv .1 .3) (l .inv .1 .4) (c .before .if3 .left))
 
 enum-known-next-2 : tie.Need-enum-known-next-2 Inv-loop μ-loop Inv-line μ-line
 enum-known-next-2 c = search needs
