@@ -32,12 +32,16 @@ unsigned crc_of(struct row bits)
     return number_at(&bits, length, CRC);
 }
 
-/* A bit is sent, and after five equal bits one of the other value. */
-static void send_stuffed(struct row *line, int bit)
+/* A row as it is sent: after five equal bits, stuff bits among them, comes one of the other value. */
+static struct row stuffed(const struct row *bits)
 {
-    append(line, bit);
-    if (line->length >= 5 && all_equal(line->bit + line->length - 5, 5))
-        append(line, !bit);
+    struct row sent = {.length = 0};
+    for (size_t i = 0; i < bits->length; i++) {
+        append(&sent, bits->bit[i]);
+        if (sent.length >= 5 && all_equal(sent.bit + sent.length - 5, 5))
+            append(&sent, !bits->bit[i]);
+    }
+    return sent;
 }
 
 struct row line_of(uint32_t identifier, unsigned dlc, const struct row *field)
@@ -46,12 +50,7 @@ struct row line_of(uint32_t identifier, unsigned dlc, const struct row *field)
     for (size_t i = 0; i < field->length; i++)
         append(&bits, field->bit[i]);
     append_number(&bits, crc_of(bits), CRC);
-
-    struct row line = {.length = 0};
-    size_t last = bits.length - 1;
-    for (size_t i = 0; i < last; i++)
-        send_stuffed(&line, bits.bit[i]);
-    append(&line, bits.bit[last]); /* no stuff bit after the last CRC bit */
+    struct row line = stuffed(&bits);
     for (int i = 0; i < UNSTUFFED; i++)
         append(&line, 1); /* CRC delimiter, ACK slot, ACK delimiter, seven end bits */
     return line;
@@ -85,10 +84,8 @@ uint64_t second_frame_bounds(uint32_t identifier, size_t payload_len)
     if (refusal != NO_REFUSAL)
         return refused(refusal, 0);
     size_t n = field_bytes(payload_len);
-    struct row header = header_of(identifier, (unsigned)n), sent = {.length = 0};
-    for (size_t i = 0; i < HEADER; i++)
-        send_stuffed(&sent, header.bit[i]);
-    size_t h = sent.length - HEADER;
+    struct row header = header_of(identifier, (unsigned)n);
+    size_t h = stuffed(&header).length - HEADER;
     return accepted(44 + 8 * n + h, 48 + 8 * n + h);
 }
 

@@ -13,10 +13,10 @@ static size_t dlc_of(const struct row *bits)
     return bits->length < HEADER ? MOST_FIELD : number_at(bits, DLC, 4);
 }
 
-/* The number of the last CRC bit, stuff bits not counted. */
-static size_t last_crc_bit(const struct row *bits)
+/* How many bits are stuffed: header, data field and CRC. */
+static size_t stuffed_bits(const struct row *bits)
 {
-    return HEADER + 8 * dlc_of(bits) + CRC - 1;
+    return HEADER + 8 * dlc_of(bits) + CRC;
 }
 
 static int crc_differs(const struct row *bits)
@@ -29,23 +29,24 @@ static int crc_differs(const struct row *bits)
 /* The refusal that the newest of these bits brings by what it means: 13, 3 or 12. */
 static enum refusal newest_refusal(const struct row *bits)
 {
-    size_t n = dlc_of(bits), newest = bits->length - 1, crc_end = last_crc_bit(bits), ack_slot = crc_end + 2;
+    size_t n = dlc_of(bits), newest = bits->length - 1, crc_delimiter = stuffed_bits(bits);
+    size_t last_crc_bit = crc_delimiter - 1, ack_slot = crc_delimiter + 1;
     int bit = bits->bit[newest];
     if (newest == START_OF_FRAME || newest == RTR || newest == IDE || newest == RESERVED)
         return bit == 0 ? NO_REFUSAL : WRONG_FIXED_BIT;
     if (newest == LAST_DLC_BIT)
         return n == 1 || n > MOST_FIELD ? WRONG_FIELD_LENGTH : NO_REFUSAL;
-    if (newest == crc_end)
+    if (newest == last_crc_bit)
         return crc_differs(bits) ? CRC_DIFFERS : NO_REFUSAL;
-    if (newest > crc_end && newest != ack_slot)
+    if (newest >= crc_delimiter && newest != ack_slot)
         return bit == 1 ? NO_REFUSAL : WRONG_FIXED_BIT;
     return NO_REFUSAL;
 }
 
-/* A stuff bit is due after five equal bits, but not after the last CRC bit. */
+/* A stuff bit is due after five equal bits that end in the header, the data field or the CRC. */
 static int stuff_bit_due(const struct row *bits, const uint8_t *line, size_t place)
 {
-    return place >= 5 && all_equal(line + place - 5, 5) && bits->length <= last_crc_bit(bits);
+    return place >= 5 && all_equal(line + place - 5, 5) && bits->length <= stuffed_bits(bits);
 }
 
 /* Looks at one place of the line; a bit that is no stuff bit is kept. */
@@ -74,7 +75,7 @@ uint64_t second_read_line(const uint8_t *line, size_t line_len, uint8_t *payload
 {
     struct row bits = {.length = 0};
     size_t place = 0;
-    for (; bits.length <= last_crc_bit(&bits) + UNSTUFFED; place++) {
+    for (; bits.length < stuffed_bits(&bits) + UNSTUFFED; place++) {
         enum refusal refusal = look_at(&bits, line, line_len, place);
         if (refusal != NO_REFUSAL)
             return refused(refusal, place);

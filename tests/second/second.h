@@ -1,4 +1,4 @@
-/* The second program: document 01 once more, in plain C, with one array cell for each bit.
+/* The second program: document 01 as #102 of 02 has it, once more, in plain C, with one array cell for each bit.
  * The calls have the parameters and the packed answer of prushgoli.h, so that both can be asked the same. */
 #ifndef SECOND_H
 #define SECOND_H
