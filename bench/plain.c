@@ -160,7 +160,7 @@ uint64_t plain_frame_length(uint32_t identifier, const uint8_t *payload, size_t 
     size_t stuffed = count_stuffed(&run, frame.header, HEADER_BITS);
     for (size_t i = 0; i < frame.n; i++)
         stuffed += count_stuffed(&run, frame.field[i], 8);
-    stuffed += count_stuffed(&run, frame.crc >> 1, CRC_BITS - 1); /* none follows the last CRC bit */
+    stuffed += count_stuffed(&run, frame.crc, CRC_BITS);
     return HEADER_BITS + 8 * frame.n + CRC_BITS + TAIL_BITS + stuffed;
 }
 
@@ -189,8 +189,7 @@ uint64_t plain_make_frame(uint32_t identifier, const uint8_t *payload, size_t pa
     uint8_t *end = send(line, &run, frame.header, HEADER_BITS);
     for (size_t i = 0; i < frame.n; i++)
         end = send(end, &run, frame.field[i], 8);
-    end = send(end, &run, frame.crc >> 1, CRC_BITS - 1);
-    *end++ = frame.crc & 1; /* no stuff bit follows it */
+    end = send(end, &run, frame.crc, CRC_BITS);
     memset(end, 1, TAIL_BITS);
     return (uint64_t)(end + TAIL_BITS - line);
 }
@@ -219,17 +218,25 @@ static bool next_bit(struct reader *reader, unsigned *bit)
     return *bit <= 1 || refuse(reader, PRUSHGOLI_LINE_BYTE);
 }
 
+/* The stuff bit that is due; it starts the next run. */
+static bool next_stuff_bit(struct reader *reader)
+{
+    struct run *run = &reader->run;
+    unsigned bit;
+    if (!next_bit(reader, &bit))
+        return false;
+    if (bit == run->bit)
+        return refuse(reader, PRUSHGOLI_STUFF_BIT);
+    *run = (struct run){bit, 1};
+    return true;
+}
+
 /* The next bit that is no stuff bit. */
 static bool next_unstuffed(struct reader *reader, unsigned *bit)
 {
     struct run *run = &reader->run;
-    if (run->length == MOST_EQUAL) {
-        if (!next_bit(reader, bit))
-            return false;
-        if (*bit == run->bit)
-            return refuse(reader, PRUSHGOLI_STUFF_BIT);
-        *run = (struct run){*bit, 1};
-    }
+    if (run->length == MOST_EQUAL && !next_stuff_bit(reader))
+        return false;
     if (!next_bit(reader, bit))
         return false;
     *run = (struct run){*bit, *bit == run->bit ? run->length + 1 : 1};
@@ -270,7 +277,9 @@ static bool receive_field_and_crc(struct reader *reader, struct frame *frame)
     }
     if (!receive(reader, CRC_BITS))
         return false;
-    return reader->value == crc_of_frame(frame) || refuse(reader, PRUSHGOLI_CRC);
+    if (reader->value != crc_of_frame(frame))
+        return refuse(reader, PRUSHGOLI_CRC);
+    return reader->run.length < MOST_EQUAL || next_stuff_bit(reader);
 }
 
 /* CRC delimiter, ACK slot, ACK delimiter and seven end bits, not stuffed; then nothing. */
