@@ -177,7 +177,7 @@ void expect(struct question question, uint64_t expected, const uint8_t *result, 
         if (answer[program] != expected ||
             (result_len > 0 && memcmp(buffer[program] + GUARD, result, result_len) != 0)) {
             difference(program == SECOND ? "the second program is wrong" : "the archive is wrong");
-            print_answer("01 says", expected);
+            print_answer("expected", expected);
         }
 }
 

@@ -27,7 +27,7 @@ static inline struct question question(enum call call, uint32_t identifier, cons
 /* Both programs must give the same answer and leave the same bytes. */
 void compare(struct question question);
 
-/* The same, and both must give this answer and this result, which document 01 says. */
+/* The same, and both must give this answer and this result, which the documents say. */
 void expect(struct question question, uint64_t expected, const uint8_t *result, size_t result_len);
 
 /* A fact about one of the two programs. */

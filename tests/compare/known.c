@@ -1,4 +1,4 @@
-/* Known answers: what document 01 says of words and works by hand, its decided open points, the CRC's check value. */
+/* Known answers: what document 01 says of words and works by hand, the decided open points, the CRC's check value. */
 #include <string.h>
 
 #include "answer.h"
@@ -29,6 +29,24 @@ static struct slice bits(const char *digits)
     for (; *digits != '\0'; digits++)
         if (*digits != ' ')
             line.byte[line.length++] = (uint8_t)(*digits - '0');
+    return line;
+}
+
+static struct slice with(struct slice line, size_t place, uint8_t byte)
+{
+    line.byte[place] = byte;
+    return line;
+}
+
+static struct slice without(struct slice line, size_t place)
+{
+    memmove(line.byte + place, line.byte + place + 1, --line.length - place);
+    return line;
+}
+
+static struct slice cut(struct slice line, size_t length)
+{
+    line.length = length;
     return line;
 }
 
@@ -116,6 +134,52 @@ static void lines(void)
     refuses(READ_LINE, bits("2"), 8, LINE_BYTE_ABOVE_1, 0);
 }
 
+/* A frame of identifier 0 and 65 bits: the last CRC bit is at 53, a stuff bit at 54, the CRC delimiter at 55. */
+static void stuffed_behind_the_crc(struct slice payload, struct slice line)
+{
+    uint8_t sixth = line.byte[53];
+    struct slice wrong_crc = with(line, 34, !line.byte[34]); /* a data bit, in no run of five either way */
+    expect(question(FRAME_LENGTH, 0, payload.byte, 1, 0), accepted(65, 0), NULL, 0);
+    expect(question(MAKE_FRAME, 0, payload.byte, 1, 116), accepted(65, 0), line.byte, 65);
+    expect(question(READ_LINE, 0, line.byte, 65, 1), accepted(1, 0), payload.byte, 1);
+    refuses(READ_LINE, cut(line, 54), 8, WRONG_LINE_LENGTH, 54);
+    refuses(READ_LINE, with(line, 54, 2), 8, LINE_BYTE_ABOVE_1, 54);
+    refuses(READ_LINE, with(line, 54, sixth), 8, SIXTH_EQUAL_BIT, 54);
+    refuses(READ_LINE, cut(line, 55), 8, WRONG_LINE_LENGTH, 55);
+    refuses(READ_LINE, with(line, 55, 2), 8, LINE_BYTE_ABOVE_1, 55);
+    refuses(READ_LINE, with(line, 55, 0), 8, WRONG_FIXED_BIT, 55);
+    refuses(READ_LINE, cut(line, 64), 8, WRONG_LINE_LENGTH, 64);
+    refuses(READ_LINE, wrong_crc, 8, CRC_DIFFERS, 53);
+    refuses(READ_LINE, cut(wrong_crc, 54), 8, CRC_DIFFERS, 53);
+    refuses(READ_LINE, with(wrong_crc, 54, 2), 8, CRC_DIFFERS, 53);
+    refuses(READ_LINE, with(wrong_crc, 54, sixth), 8, CRC_DIFFERS, 53);
+}
+
+/* A CRC that ends in five 1s, one that ends in five 0s, and what is said where the stuff bit is missing. */
+static void last_stuff_bits(void)
+{
+    struct slice ones = bits("00000 1 00000 1 00000 1 0010  1 011101100 010101  000011111 0 011111 0  1 1 1 1111111");
+    struct slice zeros = bits("00000 1 00000 1 00000 1 0010  1 011001100 010101  1111 0 11000100000 1  1 1 1 1111111");
+    struct slice missing = without(zeros, 54);
+    stuffed_behind_the_crc(bytes("77"), ones);
+    stuffed_behind_the_crc(bytes("5F"), zeros);
+    refuses(READ_LINE, without(ones, 54), 8, SIXTH_EQUAL_BIT, 54);
+    refuses(READ_LINE, missing, 8, WRONG_LINE_LENGTH, 64);
+    refuses(READ_LINE, with(missing, 55, 0), 8, WRONG_FIXED_BIT, 55); /* its ACK slot stands where a delimiter must */
+}
+
+/* 115 bits: three stuff bits in the header, four in the CRC, the last of them behind it. */
+static void longest_frame(void)
+{
+    struct slice payload = bytes("000000000082A6");
+    struct slice line = bits("00000 1 00000 1 00000 1 1000  1 001000011 001000011 001000011 001000011 001000011 "
+                             "100001011 100111011  111 0 0000 1 1111 0 0000 1  1 1 1 1111111");
+    expect(question(FRAME_LENGTH, 0, payload.byte, 7, 0), accepted(115, 0), NULL, 0);
+    expect(question(MAKE_FRAME, 0, payload.byte, 7, 115), refused(ROOM_SHORT, 0), NULL, 0);
+    expect(question(MAKE_FRAME, 0, payload.byte, 7, 116), accepted(115, 0), line.byte, 115);
+    expect(question(READ_LINE, 0, line.byte, 115, 7), accepted(7, 0), payload.byte, 7);
+}
+
 static void crc(void)
 {
     struct row row = {.length = 0};
@@ -130,5 +194,7 @@ void ask_known(void)
     fields();
     frames();
     lines();
+    last_stuff_bits();
+    longest_frame();
     crc();
 }

@@ -214,6 +214,40 @@ static void changed_lines(void)
         }
 }
 
+/* The line of a frame in which a stuff bit follows the last CRC bit: one frame in thirty is found to be such. */
+static struct row stuffed_behind_the_crc(uint32_t *identifier, uint8_t *payload, size_t size)
+{
+    struct row line;
+    do {
+        *identifier = random_identifier();
+        random_bytes(payload, size);
+        line = line_of_payload(*identifier, payload, size);
+    } while (!all_equal(line.bit + line.length - 16, 5));
+    return line;
+}
+
+/* Such frames, their lines with every change from the last CRC bit to the ACK slot, and with one more before it. */
+static void last_stuff_bits(void)
+{
+    for (int i = 0; i < 4000; i++) {
+        uint8_t payload[MOST_PAYLOAD];
+        uint32_t identifier;
+        size_t size = i % (MOST_PAYLOAD + 1);
+        struct row line = stuffed_behind_the_crc(&identifier, payload, size);
+        size_t stuff_bit = line.length - 11, delimiter = stuff_bit + 1;
+        compare(question(FRAME_LENGTH, identifier, payload, size, 0));
+        compare(question(MAKE_FRAME, identifier, payload, size, 116));
+        for (size_t place = stuff_bit - 1; place <= delimiter + 1; place++)
+            for (int change = 0; change < CHANGES; change++) {
+                struct row other = changed(line, change, place), twice = changed(other, FLIP, random_below(place));
+                read_row(&other, random_room());
+                read_row(&twice, random_room());
+            }
+        if (i % 50 == 0)
+            ask_around(&line);
+    }
+}
+
 /* Lines with a right CRC over any data field, then changed up to three times. */
 static void random_lines(void)
 {
@@ -295,6 +329,7 @@ void ask_many(void)
     all_identifiers();
     any_rows();
     changed_lines();
+    last_stuff_bits();
     small_payloads_and_fields();
     random_payloads_and_fields();
     random_lines();
