@@ -22,6 +22,11 @@ static int fault(const char *name)
     return wanted != NULL && strcmp(wanted, name) == 0;
 }
 
+static uint64_t refused(unsigned refusal, size_t place)
+{
+    return (uint64_t)refusal << 16 | place;
+}
+
 /* The payload itself or, with the misprint of document 002, one where 0E stands for 10: both then have one word. */
 static const uint8_t *misprinted(const uint8_t *payload, size_t payload_len, uint8_t *copy)
 {
@@ -59,6 +64,77 @@ static void spoil_payload(uint64_t answer, uint8_t *payload)
         payload[i] = payload[i] == 0x0E ? 0x10 : payload[i];
 }
 
+/* Whether five equal bits end at this place. */
+static int five_equal(const uint8_t *line, size_t place)
+{
+    return place >= 4 && memcmp(line + place - 4, line + place - 3, 4) == 0;
+}
+
+static int sixth_equal(const uint8_t *line, size_t line_len, size_t place)
+{
+    return place + 1 < line_len && line[place + 1] == line[place] && five_equal(line, place);
+}
+
+/* Behind the CRC: a stuff bit, if one follows its last bit, and ten bits. */
+enum { UNSTUFFED = 10, LINE_MOST = 160 };
+
+/* The place of the stuff bit behind the CRC in a line that is accepted; 0 if there is none. */
+static size_t last_stuff_bit(uint64_t answer, const uint8_t *line, size_t line_len)
+{
+    if (prushgoli_refusal(answer) != PRUSHGOLI_ACCEPTED || !five_equal(line, line_len - UNSTUFFED - 2))
+        return 0;
+    return line_len - UNSTUFFED - 1;
+}
+
+/* Makes a line in which no stuff bit follows the last CRC bit. */
+static uint64_t make_unstuffed(uint32_t identifier, const uint8_t *payload, size_t payload_len, uint8_t *line)
+{
+    uint8_t made[PRUSHGOLI_LINE_ROOM];
+    uint64_t answer = ARCHIVE(make_frame)(identifier, payload, payload_len, made, sizeof made);
+    size_t stuff_bit = last_stuff_bit(answer, made, prushgoli_length(answer));
+    if (stuff_bit > 0) {
+        made[stuff_bit] = 1; /* the first of the ten bits 1 */
+        answer--;
+    }
+    memcpy(line, made, prushgoli_length(answer));
+    return answer;
+}
+
+/* The answer to the line with the right stuff bit at this place, and its last ten bits behind, if that is accepted. */
+static uint64_t read_mended(uint64_t answer, const uint8_t *line, size_t line_len, size_t place, uint8_t *payload,
+                            size_t payload_room)
+{
+    uint8_t mended[LINE_MOST];
+    if (place == 0 || place + 1 + UNSTUFFED > LINE_MOST || !five_equal(line, place - 1))
+        return answer;
+    memcpy(mended, line, place);
+    mended[place] = !line[place - 1];
+    memcpy(mended + place + 1, line + line_len - UNSTUFFED, UNSTUFFED);
+    uint64_t read = ARCHIVE(read_line)(mended, place + 1 + UNSTUFFED, payload, payload_room);
+    return prushgoli_refusal(read) == PRUSHGOLI_ACCEPTED ? read : answer;
+}
+
+/* Faults at the stuff bit behind the CRC: the answer with the one that is wanted. */
+static uint64_t spoil_last_stuff_bit(uint64_t answer, const uint8_t *line, size_t line_len, uint8_t *payload,
+                                     size_t payload_room)
+{
+    unsigned refusal = prushgoli_refusal(answer), place = prushgoli_place(answer);
+    size_t stuff_bit = last_stuff_bit(answer, line, line_len);
+    if (fault("stuff bit taken for the CRC delimiter") && stuff_bit > 0)
+        return line[stuff_bit] == 0 ? refused(PRUSHGOLI_FIXED_BIT, stuff_bit)
+                                    : refused(PRUSHGOLI_LINE_LENGTH, line_len - 1);
+    if (fault("line without the stuff bit behind the CRC taken") && line_len > UNSTUFFED &&
+        ((refusal == PRUSHGOLI_STUFF_BIT && place == line_len - UNSTUFFED) ||
+         (refusal == PRUSHGOLI_LINE_LENGTH && place == line_len)))
+        return read_mended(answer, line, line_len, line_len - UNSTUFFED, payload, payload_room);
+    if (fault("stuff bit behind the CRC not looked at") && place + 1 + UNSTUFFED == line_len &&
+        (refusal == PRUSHGOLI_STUFF_BIT || refusal == PRUSHGOLI_LINE_BYTE))
+        return read_mended(answer, line, line_len, place, payload, payload_room);
+    if (fault("stuff bit judged before the CRC") && refusal == PRUSHGOLI_CRC && sixth_equal(line, line_len, place))
+        return refused(PRUSHGOLI_STUFF_BIT, place + 1);
+    return answer;
+}
+
 uint64_t SPOILED(encode)(const uint8_t *payload, size_t payload_len, uint8_t *field, size_t field_room)
 {
     uint8_t copy[PRUSHGOLI_PAYLOAD_MOST];
@@ -84,7 +160,9 @@ uint64_t SPOILED(decode)(const uint8_t *field, size_t field_len, uint8_t *payloa
 
 uint64_t SPOILED(frame_length)(uint32_t identifier, const uint8_t *payload, size_t payload_len)
 {
-    uint8_t copy[PRUSHGOLI_PAYLOAD_MOST];
+    uint8_t copy[PRUSHGOLI_PAYLOAD_MOST], line[PRUSHGOLI_LINE_ROOM];
+    if (fault("stuff bit behind the CRC not counted"))
+        return make_unstuffed(identifier, payload, payload_len, line);
     return ARCHIVE(frame_length)(identifier, misprinted(payload, payload_len, copy), payload_len);
 }
 
@@ -101,6 +179,8 @@ uint64_t SPOILED(make_frame)(uint32_t identifier, const uint8_t *payload, size_t
 {
     uint8_t copy[PRUSHGOLI_PAYLOAD_MOST];
     size_t room = fault("frame made with room of 115") && line_room == 115 ? 116 : line_room;
+    if (fault("stuff bit behind the CRC not made") && line_room >= PRUSHGOLI_LINE_ROOM)
+        return make_unstuffed(identifier, payload, payload_len, line);
     uint64_t answer = ARCHIVE(make_frame)(identifier, misprinted(payload, payload_len, copy), payload_len, line, room);
     spoil_bytes(answer, payload, payload_len, line);
     return answer;
@@ -121,9 +201,9 @@ uint64_t SPOILED(read_line)(const uint8_t *line, size_t line_len, uint8_t *paylo
     if (fault("bit of 1 behind the line taken") && few_behind && line[place] == 1)
         return ARCHIVE(read_line)(line, place, payload, payload_room);
     if (fault("byte above 1 behind the line judged") && few_behind && line[place] > 1)
-        return (uint64_t)PRUSHGOLI_LINE_BYTE << 16 | place;
-    if (fault("stuff bit judged before the DLC") && refusal == PRUSHGOLI_FIELD_LENGTH && place + 1 < line_len &&
-        line[place + 1] == line[place] && memcmp(line + place - 4, line + place - 3, 4) == 0)
-        return (uint64_t)PRUSHGOLI_STUFF_BIT << 16 | (place + 1);
-    return answer;
+        return refused(PRUSHGOLI_LINE_BYTE, place);
+    if (fault("stuff bit judged before the DLC") && refusal == PRUSHGOLI_FIELD_LENGTH &&
+        sixth_equal(line, line_len, place))
+        return refused(PRUSHGOLI_STUFF_BIT, place + 1);
+    return spoil_last_stuff_bit(answer, line, line_len, payload, payload_room);
 }
