@@ -1,5 +1,5 @@
 # Prushgoli. `make test` is the whole gate, `make run` the program trace on an example, `make lib` the library for C.
-.PHONY: help test evidence bench can-fail run readable lib install clean
+.PHONY: help test evidence bench can-fail peers run readable lib install clean
 .DELETE_ON_ERROR:
 # Two runs of rt would share target/.
 .NOTPARALLEL:
@@ -16,6 +16,7 @@ help:
 	@echo '            definitions.html, the rules of the format beside the definitions; runs the gate where its record is old'
 	@echo 'make bench  count the instructions of each call, beside those of a plain C implementation'
 	@echo 'make can-fail   show that the tests notice faults'
+	@echo 'make peers  compare with what the CAN decoder of sigrok reads in lines of ours'
 	@echo 'make clean  remove build/; what rt has proved stays'
 
 rt = command -v rt >/dev/null || { echo 'make $@: the Rattle toolchain is missing (no command rt)' >&2; exit 1; }
@@ -72,6 +73,10 @@ can-fail: lib target/bin/trace
 	bench/can-fail
 	@if [ -f build/evidence/index.html ]; then tests/evidence/can-fail; \
 	else echo 'make can-fail: no fault of the page was tried: there is none, make evidence makes it' >&2; fi
+
+# Not part of the gate: it installs sigrok-cli.
+peers: lib
+	@tests/peers/run
 
 # On a machine that is not x86-64 the program runs under qemu, which tests/x86-64 installs.
 run: readable target/bin/trace

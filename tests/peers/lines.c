@@ -1,0 +1,112 @@
+/* Writes lines that the archive makes, and what we say of each: a row of text with identifier, DLC, data bytes, CRC,
+ * places of the stuff bits, the five bits before a stuff bit behind the last CRC bit, length, and the line itself. What
+ * there is none of is a -. */
+#include "random.h"
+#include <prushgoli.h>
+#include <stdio.h>
+#include <stdlib.h>
+#include <string.h>
+
+enum {
+    IDENTIFIERS = 0x7F0, /* from here on CAN 2.0 forbids them, and sigrok's decoder warns */
+    HEADER = 19,
+    CRC = 15
+};
+
+struct frame {
+    uint32_t identifier;
+    uint8_t payload[PRUSHGOLI_PAYLOAD_MOST];
+    size_t size;
+};
+
+struct line {
+    uint8_t field[PRUSHGOLI_FIELD_MOST], bit[PRUSHGOLI_LINE_ROOM];
+    unsigned dlc, length;
+};
+
+/* Of a line, what no call tells. */
+struct reading {
+    unsigned crc, stuff_bits, stuff_place[PRUSHGOLI_LINE_ROOM];
+    const char *five_before;
+};
+
+static void must(int holds, const struct frame *frame, const char *what)
+{
+    if (holds)
+        return;
+    fprintf(stderr, "tests/peers: identifier %03X, payload of %zu bytes: %s\n", (unsigned)frame->identifier,
+            frame->size, what);
+    exit(1);
+}
+
+/* The line, which has the length that is told of it and is read back. */
+static struct line line_of(const struct frame *frame)
+{
+    struct line line = {.length = 0};
+    uint8_t payload[PRUSHGOLI_PAYLOAD_MOST] = {0};
+    uint64_t encoded = prushgoli_encode(frame->payload, frame->size, line.field, sizeof line.field);
+    uint64_t made = prushgoli_make_frame(frame->identifier, frame->payload, frame->size, line.bit, sizeof line.bit);
+    uint64_t read = prushgoli_read_line(line.bit, prushgoli_length(made), payload, sizeof payload);
+    must(prushgoli_refusal(encoded) == PRUSHGOLI_ACCEPTED, frame, "not encoded");
+    must(prushgoli_refusal(made) == PRUSHGOLI_ACCEPTED, frame, "no frame made");
+    must(prushgoli_frame_length(frame->identifier, frame->payload, frame->size) == made, frame, "another length told");
+    must(prushgoli_refusal(read) == PRUSHGOLI_ACCEPTED, frame, "the line is refused");
+    must(prushgoli_identifier(read) == frame->identifier && prushgoli_length(read) == frame->size &&
+             memcmp(payload, frame->payload, frame->size) == 0,
+         frame, "something else read from the line");
+    line.dlc = prushgoli_length(encoded);
+    line.length = prushgoli_length(made);
+    return line;
+}
+
+/* Goes by places alone: whatever stands behind five equal bits, up to the last CRC bit, is taken for the stuff bit. The
+ * CRC is the last fifteen of the others. */
+static struct reading reading_of(const struct line *line)
+{
+    struct reading reading = {.five_before = "-"};
+    unsigned bits = 0, bits_with_crc = HEADER + 8 * line->dlc + CRC, run = 0;
+    for (unsigned place = 0; place < line->length && (bits < bits_with_crc || run == 5); place++) {
+        if (run == 5) {
+            reading.stuff_place[reading.stuff_bits++] = place;
+            if (bits == bits_with_crc)
+                reading.five_before = line->bit[place - 1] == 0 ? "00000" : "11111";
+            run = 1;
+            continue;
+        }
+        run = place > 0 && line->bit[place] == line->bit[place - 1] ? run + 1 : 1;
+        reading.crc = (reading.crc << 1 | line->bit[place]) & 0x7FFF;
+        bits++;
+    }
+    return reading;
+}
+
+static void write_row(const struct frame *frame)
+{
+    struct line line = line_of(frame);
+    struct reading reading = reading_of(&line);
+    printf("%03X %u ", (unsigned)frame->identifier, line.dlc);
+    for (unsigned i = 0; i < line.dlc; i++)
+        printf("%02X", line.field[i]);
+    printf("%s %04X ", line.dlc == 0 ? "-" : "", reading.crc);
+    for (unsigned i = 0; i < reading.stuff_bits; i++)
+        printf("%s%u", i == 0 ? "" : ",", reading.stuff_place[i]);
+    printf("%s %s %u ", reading.stuff_bits == 0 ? "-" : "", reading.five_before, line.length);
+    for (unsigned i = 0; i < line.length; i++)
+        putchar('0' + line.bit[i]);
+    putchar('\n');
+}
+
+/* Two whose CRC ends in five 1s and in five 0s; then each identifier with each size: hundreds of them end so too. */
+int main(void)
+{
+    static const struct frame known[] = {{.payload = {0x77}, .size = 1}, {.payload = {0x5F}, .size = 1}};
+    write_row(&known[0]);
+    write_row(&known[1]);
+    for (uint32_t identifier = 0; identifier < IDENTIFIERS; identifier++)
+        for (size_t size = 0; size <= PRUSHGOLI_PAYLOAD_MOST; size++) {
+            struct frame frame = {.identifier = identifier, .size = size};
+            random_bytes(frame.payload, size);
+            write_row(&frame);
+        }
+    return fflush(stdout) != 0 || ferror(stdout);
+}
