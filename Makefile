@@ -16,7 +16,7 @@ help:
 	@echo '            definitions.html, the rules of the format beside the definitions; runs the gate where its record is old'
 	@echo 'make bench  count the instructions of each call, beside those of a plain C implementation'
 	@echo 'make can-fail   show that the tests notice faults'
-	@echo 'make peers  compare with what the CAN decoder of sigrok reads in lines of ours'
+	@echo 'make peers  compare with what the CAN decoder of sigrok reads in lines of ours, and show that this notices faults'
 	@echo 'make clean  remove build/; what rt has proved stays'
 
 rt = command -v rt >/dev/null || { echo 'make $@: the Rattle toolchain is missing (no command rt)' >&2; exit 1; }
@@ -77,6 +77,7 @@ can-fail: lib target/bin/trace
 # Not part of the gate: it installs sigrok-cli.
 peers: lib
 	@tests/peers/run
+	@tests/peers/can-fail
 
 # On a machine that is not x86-64 the program runs under qemu, which tests/x86-64 installs.
 run: readable target/bin/trace
