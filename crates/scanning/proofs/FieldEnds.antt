@@ -1,8 +1,7 @@
 -- From row to row. Assumes nothing.
---     row-width, bit-is    what the code finds of a row, how many bits it has and which must stand there
---     row-bits        and which it may be
+--     row-bits        which bit must stand in a row, as the code asks for it
 --     line-begins     before the first row
---     field-begins    into a row
+--     begun, field-begins    into a row
 --     Ends, field-ends    where reading stops in it: to the next one, or the line is refused as the definition says
 --     line-longer     behind the last row: the line goes on,
 --     line-read       or it is read
@@ -13,8 +12,8 @@ use Prim.Native.Nat.{ℕ, zero, suc, _+_, _-_, _*_, _%_, _≤_, _<_}
 use native.Mathlib.Omega.{arith}
 use lib.Dec.{eqb, leb, ltb, lit<, T}
 use lib.ListN.{length, getD, drop-of-length-le}
-use lib.Seq.{drop-cons, getD-set-other}
-use borrow.Author.Tests.{lt-ltb, le-ltb, eq-eqb, ne-eqb, leb-true, ltb-true, ltb-false, eqb-true, eqb-false}
+use lib.Seq.{drop-cons}
+use borrow.Author.Tests.{lt-ltb, le-ltb, eq-eqb, ne-eqb, leb-true, ltb-true, ltb-false, eqb-true}
 use mir.Facts.{and-yes}
 use Rattle.bits.specs.Rows.{bits, number}
 use Rattle.bits.specs.declared.Run.{Run}
@@ -25,59 +24,33 @@ use Rattle.crc.specs.Crc.{crc}
 use Rattle.crc.specs.Dlc.{dataBytes}
 use Rattle.scanning.specs.Scan.{identifierIn, dlcIn, complete, crcStart, crcRight, Verdict, right, shown, stopped, onward, scan, scanned}
 use Rattle.scanning.specs.Held.{dataIn}
-use Rattle.scanning.specs.Steps.{fixedRow, freeRow, rowsOf, least, headerRead, fieldRead, crcRead, partEnd, fieldEnd, Holds, Reads}
-use Rattle.scanning.specs.declared.fields.Field.{Field}
+use Rattle.scanning.specs.Steps.{widthsOf, mustList, least, headerRead, fieldRead, crcRead, partEnd, fieldEnd, Holds, Reads}
 use Rattle.scanning.specs.declared.seen.Seen.{Seen}
 use Rattle.scanning.specs.declared.seen.Step.{Step}
 use Rattle.scanning.specs.declared.seen.Step.the-variants.{Next, Refused}
-use Rattle.scanning.proofs.Positions.{rowAt, startOf, endOf, end-is, next-start, Stage, before-dlc, dlc, data-bits, crc-bits, ending, stage, first-start, data-start, frame-end}
+use Rattle.scanning.proofs.Positions.{widthAt, mustAt, startOf, endOf, end-is, next-start, Stage, before-dlc, dlc, data-bits, crc-bits, ending, stage, first-start, data-start, frame-end}
 use Rattle.scanning.proofs.Registers.{Fine, Registers, in-header, in-data, in-crc, behind, crc-length, dlc-known, dlc-read, header-put, field-put, crc-there, identifier-there, data-there}
 use Rattle.scanning.proofs.Verdicts.{bit-too-many, dlc-taken, taken-dlc, length-refused, crc-refused, nothing-shown}
 use Rattle.scanning.proofs.RawBits.{none}
 use Rattle.scanning.proofs.Passing.{rest}
-use Rattle.scanning.proofs.Keeping.{bytes, dataBits, pending, Told, Between, Within, least-not, missing}
-
--- only the data field hangs on the DLC
-other-field : (f n : ℕ) → (f ≡ 4 → ⊥) → rowAt f (rowsOf n) ≡ rowAt f (rowsOf 0)
-unfolding rowsOf
-other-field f n h = getD-set-other (rowsOf 0) 4 f (freeRow (8 * n)) (fixedRow 0 0) h
-
-width-is : (f n : ℕ) → rowAt f (rowsOf 0) .bits + dataBits f n ≡ rowAt f (rowsOf n) .bits
-unfolding rowsOf
-width-is f n = go (eqb f 4) refl
-  where
-    go : (t : Bool) → eqb f 4 ≡ t → rowAt f (rowsOf 0) .bits + cond t (8 * n) 0 ≡ rowAt f (rowsOf n) .bits
-    go true e = let i = eqb-true f 4 e in rw i (omega arith)
-    go false e = let same = ap (λ (x : Field). x .bits) (other-field f n (eqb-false f 4 e)) in omega arith
-
-pub row-width : (fields : List Field) (f n count : ℕ) → fields ≡ rowsOf 0 → count ≡ dataBits f n
-    → rowAt f fields .bits + count ≡ rowAt f (rowsOf n) .bits
-row-width fields f n count e d = rw (e, d) (width-is f n)
-
-pub bit-is : (f n : ℕ) → rowAt f (rowsOf 0) .bit ≡ rowAt f (rowsOf n) .bit
-unfolding rowsOf
-bit-is f n = go (eqb f 4) refl
-  where
-    go : (t : Bool) → eqb f 4 ≡ t → rowAt f (rowsOf 0) .bit ≡ rowAt f (rowsOf n) .bit
-    go true e = let i = eqb-true f 4 e in rw i refl
-    go false e = sym (ap (λ (x : Field). x .bit) (other-field f n (eqb-false f 4 e)))
+use Rattle.scanning.proofs.Keeping.{bytes, pending, Told, Between, Within, least-not, missing}
 
 -- the rows as the code asks for them: up to the CRC no bit must be 1, behind it none 0
 row-test : ℕ → Bool
 row-test f =
-    let bit = rowAt f (rowsOf 0) .bit in
+    let bit = mustAt f in
     leb bit 2 && cond (ltb 5 f) (ltb 0 bit) (eqb (bit % 2) 0)
 
 row-tested : T (everywhere row-test 9)
-unfolding row-test rowsOf
+unfolding row-test mustList
 row-tested = tt
 
 pub row-bits : (f : ℕ) → f < 9 →
-    let bit = rowAt f (rowsOf 0) .bit in
+    let bit = mustAt f in
     (bit ≤ 2) × (f ≤ 5 → bit % 2 ≡ 0) × (5 < f → 0 < bit)
 unfolding row-test
 row-bits f h =
-    let bit = rowAt f (rowsOf 0) .bit in
+    let bit = mustAt f in
     let both = and-yes (leb bit 2) (cond (ltb 5 f) (ltb 0 bit) (eqb (bit % 2) 0)) (everywhere-at row-test 9 row-tested f h) in (
       leb-true _ _ (told (leb bit 2) (both .0)),
       λ g. eqb-true _ _ (told (eqb (bit % 2) 0) (rw (le-ltb 5 f g) at (both .1))),
@@ -87,10 +60,6 @@ row-bits f h =
     told : (t : Bool) → T t → t ≡ true
     told true x = refl
     told false x = absurd x
-
--- only the data row has data bits
-no-data : (f n : ℕ) → (f ≡ 3 → ⊥) → (f ≡ 4 → ⊥) → dataBits f n ≡ dataBits (f + 1) n
-no-data f n not-dlc not-data = rw (ne-eqb f 4 not-data, ne-eqb (f + 1) 4 (λ e. not-dlc (omega arith))) refl
 
 -- behind a row other than DLC and CRC the frame shows nothing
 nothing-behind : (f header field n : ℕ) (frame : List ℕ) (place : ℕ) → f < 9 → (f ≡ 3 → ⊥) → (f ≡ 5 → ⊥)
@@ -125,39 +94,34 @@ begun line seen end =
       number = seen .number;
       header = seen .header;
       field = seen .field;
-      «data_bits» = seen .«data_bits»;
     }
 
-pub field-begins : (line : List ℕ) (f : ℕ) (seen : Seen) (run : Run) (frame : List ℕ) (own more : ℕ)
-    → f < 9 → own + more ≡ rowAt f (rowsOf (bytes seen)) .bits → Between line f seen run frame
-    → Within line f (begun line seen (seen .place + own + more)) run (own + more) frame
-unfolding rowsOf
-field-begins line f seen run frame own more h e b =
+pub field-begins : (line : List ℕ) (f : ℕ) (seen : Seen) (run : Run) (frame : List ℕ) (width : ℕ)
+    → f < 9 → width ≡ widthAt f (bytes seen) → Between line f seen run frame
+    → Within line f (begun line seen (seen .place + width)) run width frame
+unfolding widthsOf
+field-begins line f seen run frame width h e b =
     record {
-      leads = b .leads ∙ ap (λ (v : Verdict). onward v (rest line seen run frame)) (sym (nothing count refl));
-      end-is = omega arith;
+      leads = b .leads ∙ ap (λ (v : Verdict). onward v (rest line seen run frame)) (sym (nothing width refl));
+      end-is = refl;
       stop-is = refl;
       at-is = end;
       from = omega (arith, b .at-is);
-      data-bits-is = b .data-bits-is;
       registers = b .registers;
       fresh = b .fresh;
       reached = b .reached;
       behind = b .behind;
     }
   where
-    count : ℕ
-    count = own + more
-
-    end : length frame + count ≡ endOf f (bytes seen)
+    end : length frame + width ≡ endOf f (bytes seen)
     end = omega (arith, b .at-is, e, end-is f (bytes seen))
 
-    some : (k : ℕ) → 0 < rowAt k (rowsOf (bytes seen)) .bits → count ≡ 0 → f ≡ k → ⊥
+    some : (k : ℕ) → 0 < widthAt k (bytes seen) → width ≡ 0 → f ≡ k → ⊥
     some k p z i =
-        let same : rowAt f (rowsOf (bytes seen)) .bits ≡ rowAt k (rowsOf (bytes seen)) .bits = rw i refl in
+        let same : widthAt f (bytes seen) ≡ widthAt k (bytes seen) = ap (λ (j : ℕ). widthAt j (bytes seen)) i in
         omega (arith, e, same)
 
-    nothing : (k : ℕ) → count ≡ k → pending k frame (seen .place) ≡ right
+    nothing : (k : ℕ) → width ≡ k → pending k frame (seen .place) ≡ right
     nothing zero d =
         nothing-behind f (seen .header) (seen .field) (seen .number) frame (seen .place - 1) h (some 3 (lit< tt) d) (some 5 (lit< tt) d)
         (omega (arith, end)) (b .registers)
@@ -165,13 +129,12 @@ field-begins line f seen run frame own more h e b =
 
 -- before the first row
 pub line-begins : (line : List ℕ)
-    → Between line 0 (record { stop = 0; end = 0; place = 0; raw = 1; number = 0; header = 0; field = 0; «data_bits» = 0 }) nothingSent []
+    → Between line 0 (record { stop = 0; end = 0; place = 0; raw = 1; number = 0; header = 0; field = 0 }) nothingSent []
 unfolding scanned bits
 line-begins line =
     record {
       leads = refl;
       at-is = sym (first-start 0);
-      data-bits-is = refl;
       registers = in-header (omega arith) refl (lit< tt);
       told = λ few. none refl refl refl;
       fresh = λ e. refl;
@@ -213,7 +176,6 @@ module _ (line : List ℕ) (f : ℕ) (seen : Seen) (run : Run) (left : ℕ) (fra
   other-ends not-dlc not-data not-crc = rw (ne-eqb f 3 not-dlc, ne-eqb f 4 not-data, ne-eqb f 5 not-crc) (record {
     leads = leads right (nothing-here not-dlc not-crc);
     at-is = at ∙ next-start f (bytes seen);
-    data-bits-is = w .data-bits-is ∙ no-data f _ not-dlc not-data;
     registers = passed-on f (seen .header) (seen .field) (seen .number) frame not-dlc not-data not-crc (w .registers);
     told = told-of;
     fresh = w .fresh;
@@ -246,7 +208,6 @@ module _ (line : List ℕ) (f : ℕ) (seen : Seen) (run : Run) (left : ℕ) (fra
                 number = 0;
                 header = n;
                 field = seen .field;
-                «data_bits» = 8 * (n % 16);
               })))
           go true d = leads _ (length-refused frame (seen .place - 1) nineteen (rw there d))
           go false d =
@@ -256,7 +217,6 @@ module _ (line : List ℕ) (f : ℕ) (seen : Seen) (run : Run) (left : ℕ) (fra
               record {
                 leads = leads right (nothing-shown frame (seen .place - 1) (λ x. rw there d) (λ x. absurd (omega (arith, nineteen))));
                 at-is = nineteen ∙ sym (ap (λ (k : ℕ). startOf k (n % 16)) next ∙ data-start (n % 16));
-                data-bits-is = rw next refl;
                 registers =
                     subst (λ (k : ℕ). Registers k n (seen .field) 0 frame) (sym next)
                     (header-put (seen .field) n frame nineteen fine e);
@@ -282,7 +242,6 @@ module _ (line : List ℕ) (f : ℕ) (seen : Seen) (run : Run) (left : ℕ) (fra
           record {
             leads = leads right (nothing-here (λ d. omega arith) (λ d. omega arith));
             at-is = at ∙ next-start f (bytes seen);
-            data-bits-is = rw next refl;
             registers =
                 subst (λ (k : ℕ). Registers k (seen .header) (seen .number) 0 frame) (sym next)
                 (field-put (seen .header) (seen .number) k frame (at ∙ end) fine e l);
@@ -317,7 +276,6 @@ module _ (line : List ℕ) (f : ℕ) (seen : Seen) (run : Run) (left : ℕ) (fra
           go true d = rw (sym there ∙ d) (record {
             leads = leads right (nothing-shown frame (seen .place - 1) (λ x. absurd (omega (arith, last))) (λ x. d));
             at-is = at ∙ next-start f (bytes seen);
-            data-bits-is = w .data-bits-is ∙ no-data f _ (λ x. omega arith) (λ x. omega arith);
             registers = behind (bits k (seen .number)) (omega arith) put e (rw fifteen at l);
             told = told-of;
             fresh = w .fresh;

@@ -1,6 +1,7 @@
 -- While a line is read, what is left of it leads where the whole leads, and the registers hold the frame's bits. Assumes nothing.
+--     bytes, pending     the bytes of the data field, as the code has them; what the frame shows, where that is still to be looked at
+--     Told               as long as a stuff bit may come, the raw bits tell the run
 --     Between, Within    before a row, and in it, with so many bits to come; behind its last bit what the frame shows is still to be looked at
---     dataBits           the data bits that a row has
 --     least-both, least-not    places before the one that comes first, and behind it
 --     Goes, bit-goes     a bit of the frame, with the stuff bit before it: both are right, or the line is refused as the definition says
 --     must-stand         the bit that must stand next
@@ -22,11 +23,11 @@ use Rattle.bits.specs.Stuffing.{counted}
 use Rattle.refusals.specs.declared.Refusal.the-variants.{LineByte, LineLength, FixedBit}
 use Rattle.scanning.specs.Form.{form, fits}
 use Rattle.scanning.specs.Scan.{dlcIn, complete, crcStart, stuffDue, mustBe, Verdict, right, shown, verdict, runWith, frameWith, stopped, onward, scan, scanned}
-use Rattle.scanning.specs.Steps.{rowsOf, least, bitAt, oneOn, passed, judgedBit, fieldBit, endingBit, andThen, endingRow, lineBit}
+use Rattle.scanning.specs.Steps.{least, bitAt, oneOn, passed, judgedBit, fieldBit, endingBit, andThen, endingRow, lineBit}
 use Rattle.scanning.specs.declared.seen.Seen.{Seen}
 use Rattle.scanning.specs.declared.seen.Step.{Step}
 use Rattle.scanning.specs.declared.seen.Step.the-variants.{Next, Refused}
-use Rattle.scanning.proofs.Positions.{rowAt, startOf, endOf, data-from, ending-from, header-end, data-end, crc-end, end-within, slot-from, early-or-known, to-the-crc, behind-the-crc, must-is, not-complete}
+use Rattle.scanning.proofs.Positions.{mustAt, startOf, endOf, data-from, ending-from, header-end, data-end, crc-end, end-within, slot-from, early-or-known, to-the-crc, behind-the-crc, must-is, not-complete}
 use Rattle.scanning.proofs.Passing as passing
 use Rattle.scanning.proofs.Passing.{rest, Passes, pass-goes}
 use Rattle.scanning.proofs.RawBits.{Tells, told-more}
@@ -37,10 +38,6 @@ use Rattle.scanning.proofs.Verdicts.{byte-above-1, fixed-bit, frame-bit
 -- the bytes of the data field, as the code has them
 abbrev pub bytes : Seen → ℕ
 bytes seen = seen .header % 16
-
--- and its bits, as far as the present row has them
-abbrev pub dataBits : ℕ → ℕ → ℕ
-dataBits f n = cond (eqb f 4) (8 * n) 0
 
 -- behind a row's last bit the frame is still to be looked at
 abbrev pub pending : ℕ → List ℕ → ℕ → Verdict
@@ -59,7 +56,6 @@ Told seen run frame = length frame ≤ crcStart frame + 15 → Tells (seen .raw)
 pub record Between (line : List ℕ) (f : ℕ) (seen : Seen) (run : Run) (frame : List ℕ) : Type 0 where
   pub leads : scanned line ≡ rest line seen run frame
   pub at-is : length frame ≡ startOf f (bytes seen)
-  pub data-bits-is : seen .«data_bits» ≡ dataBits f (bytes seen)
   pub registers : Registers f (seen .header) (seen .field) (seen .number) frame
   pub told : Told seen run frame
   pub fresh : run .count ≡ 0 → length frame ≡ 0
@@ -73,7 +69,6 @@ pub record Within (line : List ℕ) (f : ℕ) (seen : Seen) (run : Run) (left : 
   pub stop-is : seen .stop ≡ least (seen .end) (length line)
   pub at-is : length frame + left ≡ endOf f (bytes seen)
   pub from : startOf f (bytes seen) ≤ length frame
-  pub data-bits-is : seen .«data_bits» ≡ dataBits f (bytes seen)
   pub registers : Registers f (seen .header) (seen .field) (seen .number) frame
   pub fresh : run .count ≡ 0 → length frame ≡ 0
   pub reached : seen .place ≤ length line
@@ -137,13 +132,13 @@ shown-inside f n frame place from to known =
 abbrev Ready : List ℕ → ℕ → Seen → ℕ → List ℕ → Run → Seen → Type 0
 Ready line f seen left frame run next =
     Within line f next run left frame × (f ≤ 5 → Tells (next .raw) run) × (stuffDue run frame ≡ false)
-    × (next .place < next .stop) × (seen .place ≤ next .place)
+    × (next .place < next .stop) × (seen .place ≤ next .place) × (next .header ≡ seen .header)
 
 -- what a step in row f leads to
 abbrev pub Goes : List ℕ → ℕ → Seen → Step → Type 0
 Goes line f seen (Next next) =
     (run : Run) × (left : ℕ) × (frame : List ℕ) × Within line f next run left frame × Told next run frame
-    × (seen .place < length line) × (seen .place < next .place)
+    × (seen .place < length line) × (seen .place < next .place) × (next .header ≡ seen .header)
 Goes line f seen (Refused refusal) = scanned line ≡ stopped refusal
 
 -- a row's end leaves room for more places
@@ -170,8 +165,8 @@ module _ (line : List ℕ) (f : ℕ) (seen : Seen) (run : Run) (left : ℕ) (fra
   missing = passing.missing line seen run frame leads begun
 
   -- the bit that must stand next
-  pub must-stand : mustBe frame ≡ rowAt f (rowsOf (bytes seen)) .bit
-  must-stand = must-is f (bytes seen) frame known (w .from) to
+  pub must-stand : mustBe frame ≡ mustAt f
+  must-stand = must-is f (bytes seen) frame known (w .from) to h
 
   pub number-small : seen .number < 2 ^ 63
   number-small = small (w .registers)
@@ -211,7 +206,7 @@ module _ (line : List ℕ) (f : ℕ) (seen : Seen) (run : Run) (left : ℕ) (fra
         → Passes line (Ready line f seen left frame) (passed raw line seen)
     stuffed-goes raw g told same =
         pass-goes line seen run frame leads begun inside (told (within-crc g)) (within-crc g) raw (Ready line f seen left frame)
-        (λ due. (w, λ few. told (within-crc g), due, rw (w .stop-is) (least-over (seen .end) (length line) (seen .place) (omega (arith, w .end-is)) inside), omega arith))
+        (λ due. (w, λ few. told (within-crc g), due, rw (w .stop-is) (least-over (seen .end) (length line) (seen .place) (omega (arith, w .end-is)) inside), omega arith, refl))
         (λ r stuffed. (
           record {
             leads = rw (pending-none left frame (seen .place + 1) some) (stuffed .leads);
@@ -219,7 +214,6 @@ module _ (line : List ℕ) (f : ℕ) (seen : Seen) (run : Run) (left : ℕ) (fra
             stop-is = refl;
             at-is = w .at-is;
             from = w .from;
-            data-bits-is = w .data-bits-is;
             registers = w .registers;
             fresh = λ e. absurd (omega (arith, stuffed .single));
             reached = omega (arith, stuffed .inside);
@@ -229,6 +223,7 @@ module _ (line : List ℕ) (f : ℕ) (seen : Seen) (run : Run) (left : ℕ) (fra
           stuffed .none-due,
           least-over _ _ _ (omega (arith, w .end-is)) (stuffed .inside),
           omega arith,
+          refl,
         ))
 
     -- ---- a bit of the frame
@@ -293,7 +288,6 @@ module _ (line : List ℕ) (f : ℕ) (seen : Seen) (run : Run) (left : ℕ) (fra
               stop-is = w .stop-is;
               at-is = omega (arith, w .at-is, longer frame b);
               from = omega (arith, w .from, longer frame b);
-              data-bits-is = w .data-bits-is;
               registers = registers;
               fresh = λ e. absurd (counted-some run b e);
               reached = omega (arith, inside);
@@ -315,7 +309,7 @@ module _ (line : List ℕ) (f : ℕ) (seen : Seen) (run : Run) (left : ℕ) (fra
           fixed-goes bit false d = went _ (fixed-bit run frame (seen .place) b begun bit due (same ∙ d))
           fixed-goes bit true d =
               let n = same ∙ d in
-              (runWith run b, left - 1, more, within-on bit raw number n (kept bit n .0), kept bit n .1, inside, omega arith)
+              (runWith run b, left - 1, more, within-on bit raw number n (kept bit n .0), kept bit n .1, inside, omega arith, refl)
 
           byte : (t : Bool) → ltb 1 b ≡ t
               → Goes line f seen
@@ -342,22 +336,22 @@ bit-goes line f seen run left frame h w told before must m = late (ltb 5 f) refl
     some : 0 < left
     some = omega (arith, w .end-is, both .0)
 
-    further : (next : Seen) (s : Step) → seen .place ≤ next .place → Goes line f next s → Goes line f seen s
-    further next (Next last) l g = (g .0, g .1, g .2, g .3, g .4, both .1, omega (arith, g .6))
-    further next (Refused refusal) l g = g
+    further : (next : Seen) (s : Step) → seen .place ≤ next .place → next .header ≡ seen .header → Goes line f next s → Goes line f seen s
+    further next (Next last) l same g = (g .0, g .1, g .2, g .3, g .4, both .1, omega (arith, g .6), g .7 ∙ same)
+    further next (Refused refusal) l same g = g
 
     -- behind a stuff bit, or where none is due
     field : f ≤ 5 → (s : Step) → Passes line (Ready line f seen left frame) s → Goes line f seen (andThen s (fieldBit must line))
-    field few (Next next) (r, (v, tells, due, l, k)) =
+    field few (Next next) (r, (v, tells, due, l, k, same)) =
         let inner = least-both (next .end) (length line) (next .place) (rw (v .stop-is) at l) in
-        further next (fieldBit must line next) k
+        further next (fieldBit must line next) k same
         (field-goes line f next r left frame h v some (inner .1) due must m few (tells few))
     field few (Refused refusal) e = e
 
     delimiter : 5 < f → (s : Step) → Passes line (Ready line f seen left frame) s → Goes line f seen (andThen s (endingBit must line))
-    delimiter over (Next next) (r, (v, tells, due, l, k)) =
+    delimiter over (Next next) (r, (v, tells, due, l, k, same)) =
         let inner = least-both (next .end) (length line) (next .place) (rw (v .stop-is) at l) in
-        further next (endingBit must line next) k
+        further next (endingBit must line next) k same
         (ending-goes line f next r left frame h v some (inner .1) due must m over)
     delimiter over (Refused refusal) e = e
 

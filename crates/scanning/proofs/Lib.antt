@@ -9,3 +9,4 @@ pub mod LineBit
 pub mod Passing
 pub mod Keeping
 pub mod FieldEnds
+pub mod Widths

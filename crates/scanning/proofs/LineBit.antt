@@ -110,7 +110,7 @@ pub passed-inside : (raw : ℕ) (line : List ℕ) (seen next : Seen) → seen .p
     → (next .place < length line) × (next .number ≡ seen .number)
 passed-inside raw line seen next h e = rw (← e) at (inside raw line seen h)
 
--- the next bit of row f, behind the CRC delimiter
+-- the next bit of row f, behind the CRC, and behind its delimiter
 pub ending-next : (line : List ℕ) (f must : ℕ) (seen : Seen) → 5 < f → endingRow f must line seen ≡ lineBit f must line seen
 unfolding lineBit
 ending-next line f must seen h = rw (lt-ltb 5 f h) refl

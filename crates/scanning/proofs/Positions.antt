@@ -1,5 +1,6 @@
 -- Where the rows stand that the code reads a frame by. Assumes nothing.
---     startOf, endOf    the positions of field f's first bit and of the one behind its last, where the frame has n data bytes
+--     widthAt, mustAt   how many bits field f has, and the bit that each of them must be
+--     startOf, endOf, end-is    the positions of field f's first bit and of the one behind its last, where the frame has n data bytes
 --     next-start        a field starts where the one before it ends
 --     end-some, header-end, data-end, crc-end, end-within    how far fields reach
 --     first-start, data-start, data-from, ending-from, slot-from, frame-end    and from where on
@@ -22,40 +23,42 @@ use lib.Seq.{getD-append-add}
 use borrow.Author.Tests.{ne-eqb, ltb-true, ltb-false, eqb-true, eqb-false}
 use Rattle.scanning.specs.Form.{either, form}
 use Rattle.scanning.specs.Scan.{dlcIn, crcStart, complete, mustBe}
-use Rattle.scanning.specs.Steps.{fixedRow, rowsOf, formOf}
-use Rattle.scanning.specs.declared.fields.Field.{Field}
+use Rattle.scanning.specs.Steps.{widthsOf, mustList, formOf}
 use Rattle.scanning.proofs.Partial.{must-early}
 
--- row f of a list of fields
-abbrev pub rowAt : ℕ → List Field → Field
-rowAt f l = getD l f (fixedRow 0 0)
+-- how many bits field f has, and the bit that each of them must be
+abbrev pub widthAt : ℕ → ℕ → ℕ
+widthAt f n = getD (widthsOf n) f 0
+
+abbrev pub mustAt : ℕ → ℕ
+mustAt f = getD mustList f 0
 
 -- how many bits stand before the field at f
-abbrev before : ℕ → List Field → ℕ
+abbrev before : ℕ → List ℕ → ℕ
 before zero l = 0
 before (suc f) [] = 0
-before (suc f) (x ∷ l) = x .bits + before f l
+before (suc f) (x ∷ l) = x + before f l
 
-before-suc : (f : ℕ) (l : List Field) → before (suc f) l ≡ before f l + rowAt f l .bits
+before-suc : (f : ℕ) (l : List ℕ) → before (suc f) l ≡ before f l + getD l f 0
 before-suc zero [] = refl
 before-suc zero (x ∷ l) = omega arith
 before-suc (suc f) [] = refl
 before-suc (suc f) (x ∷ l) = omega (arith, before-suc f l)
 
-before-more : (f k : ℕ) (l : List Field) → before f l ≤ before (f + k) l
+before-more : (f k : ℕ) (l : List ℕ) → before f l ≤ before (f + k) l
 before-more zero k l = omega arith
 before-more (suc f) k [] = omega arith
 before-more (suc f) k (x ∷ l) = rw (suc-add f k) (omega (arith, before-more f k l))
 
 pub startOf : ℕ → ℕ → ℕ
-startOf f n = before f (rowsOf n)
+startOf f n = before f (widthsOf n)
 
 pub endOf : ℕ → ℕ → ℕ
 endOf f n = startOf (suc f) n
 
-pub end-is : (f n : ℕ) → endOf f n ≡ startOf f n + rowAt f (rowsOf n) .bits
+pub end-is : (f n : ℕ) → endOf f n ≡ startOf f n + widthAt f n
 unfolding startOf endOf
-end-is f n = before-suc f (rowsOf n)
+end-is f n = before-suc f (widthsOf n)
 
 pub next-start : (f n : ℕ) → endOf f n ≡ startOf (f + 1) n
 unfolding endOf
@@ -65,7 +68,7 @@ later : (f g n : ℕ) → f ≤ g → startOf f n ≤ startOf g n
 unfolding startOf
 later f g n h =
     let sum : f + (g - f) ≡ g = omega arith in
-    subst (λ (k : ℕ). before f (rowsOf n) ≤ before k (rowsOf n)) sum (before-more f (g - f) (rowsOf n))
+    subst (λ (k : ℕ). before f (widthsOf n) ≤ before k (widthsOf n)) sum (before-more f (g - f) (widthsOf n))
 
 -- where the parts start
 pub first-start : (n : ℕ) → startOf 0 n ≡ 0
@@ -73,31 +76,31 @@ unfolding startOf
 first-start n = refl
 
 identifier-start : (n : ℕ) → startOf 1 n ≡ 1
-unfolding startOf rowsOf
+unfolding startOf widthsOf
 identifier-start n = refl
 
 dlc-start : (n : ℕ) → startOf 3 n ≡ 15
-unfolding startOf rowsOf
+unfolding startOf widthsOf
 dlc-start n = refl
 
 pub data-start : (n : ℕ) → startOf 4 n ≡ 19
-unfolding startOf rowsOf
+unfolding startOf widthsOf
 data-start n = refl
 
 crc-start : (n : ℕ) → startOf 5 n ≡ 19 + 8 * n
-unfolding startOf rowsOf
+unfolding startOf widthsOf
 crc-start n = omega arith
 
 ending-start : (n : ℕ) → startOf 6 n ≡ 34 + 8 * n
-unfolding startOf rowsOf
+unfolding startOf widthsOf
 ending-start n = omega arith
 
 slot-start : (n : ℕ) → startOf 7 n ≡ 35 + 8 * n
-unfolding startOf rowsOf
+unfolding startOf widthsOf
 slot-start n = omega arith
 
 pub frame-end : (n : ℕ) → startOf 9 n ≡ 44 + 8 * n
-unfolding startOf rowsOf
+unfolding startOf widthsOf
 frame-end n = omega arith
 
 -- where fields start and end
@@ -172,23 +175,22 @@ stage f n h = first (ltb f 3) refl
     first false e = second (eqb f 3) refl (ltb-false f 3 e)
 
 -- the bit of a field stands at each of its positions
-form-at : (f : ℕ) (l : List Field) (i : ℕ) → i < rowAt f l .bits → getD (formOf l) (before f l + i) either ≡ rowAt f l .bit
+form-at : (f : ℕ) (l m : List ℕ) (i : ℕ) → f < length m → i < getD l f 0 → getD (formOf l m) (before f l + i) either ≡ getD m f 0
 unfolding formOf
-form-at zero [] i h = absurd (omega arith)
-form-at zero (x ∷ l) i h =
-    let inside : i < length (replicate (x .bits) (x .bit)) = rw (length-replicate (x .bits) (x .bit)) h in
-    rw (zero-add, List·getD-append (replicate (x .bits) (x .bit)) (formOf l) either i inside)
-    (getD-replicate (x .bits) i (x .bit) either h)
-form-at (suc f) [] i h = absurd (omega arith)
-form-at (suc f) (x ∷ l) i h =
-    let at : x .bits + before f l + i ≡ length (replicate (x .bits) (x .bit)) + (before f l + i) =
-    rw (length-replicate (x .bits) (x .bit)) (omega arith) in
-    rw (at, getD-append-add (replicate (x .bits) (x .bit)) (formOf l) (before f l + i) either) (form-at f l i h)
+form-at f l [] i g h = absurd (omega arith)
+form-at zero [] (b ∷ m) i g h = absurd (omega arith)
+form-at zero (x ∷ l) (b ∷ m) i g h =
+    let inside : i < length (replicate x b) = rw (length-replicate x b) h in
+    rw (zero-add, List·getD-append (replicate x b) (formOf l m) either i inside) (getD-replicate x i b either h)
+form-at (suc f) [] (b ∷ m) i g h = absurd (omega arith)
+form-at (suc f) (x ∷ l) (b ∷ m) i g h =
+    let at : x + before f l + i ≡ length (replicate x b) + (before f l + i) = rw (length-replicate x b) (omega arith) in
+    rw (at, getD-append-add (replicate x b) (formOf l m) (before f l + i) either) (form-at f l m i (omega arith) h)
 
--- the rows stand for the form
-rows-form : (n : ℕ) → formOf (rowsOf n) ≡ form n
-unfolding form formOf rowsOf
-rows-form n = refl
+-- the fields stand for the form
+fields-form : (n : ℕ) → formOf (widthsOf n) mustList ≡ form n
+unfolding form formOf widthsOf mustList
+fields-form n = refl
 
 -- a frame that reaches into field f, or up to its end; the DLC is known behind the header
 module _ (f n : ℕ) (frame : List ℕ) (known : 3 < f → dlcIn frame ≡ n) where
@@ -212,9 +214,9 @@ module _ (f n : ℕ) (frame : List ℕ) (known : 3 < f → dlcIn frame ≡ n) wh
   behind-the-crc over g = omega (arith, known (omega arith))
 
   module _ (from : startOf f n ≤ length frame) (to : length frame < endOf f n) where
-    pub must-is : mustBe frame ≡ rowAt f (rowsOf n) .bit
-    unfolding mustBe startOf
-    must-is = same (early-or-known to) ∙ ap (λ (l : List ℕ). getD l p either) (sym (rows-form n)) ∙ at
+    pub must-is : f < 9 → mustBe frame ≡ mustAt f
+    unfolding mustBe startOf mustList
+    must-is h = same (early-or-known to) ∙ ap (λ (l : List ℕ). getD l p either) (sym (fields-form n)) ∙ at
       where
         p : ℕ
         p = length frame
@@ -223,11 +225,11 @@ module _ (f n : ℕ) (frame : List ℕ) (known : 3 < f → dlcIn frame ≡ n) wh
         same (inl e) = must-early (dlcIn frame) p e ∙ sym (must-early n p e)
         same (inr e) = ap (λ (k : ℕ). getD (form k) p either) e
 
-        at : getD (formOf (rowsOf n)) p either ≡ rowAt f (rowsOf n) .bit
+        at : getD (formOf (widthsOf n) mustList) p either ≡ mustAt f
         at =
             let sum : startOf f n + (p - startOf f n) ≡ p = omega (arith, from) in
-            subst (λ (k : ℕ). getD (formOf (rowsOf n)) k either ≡ rowAt f (rowsOf n) .bit) sum
-            (form-at f (rowsOf n) (p - startOf f n) (omega (arith, from, to, end-is f n)))
+            subst (λ (k : ℕ). getD (formOf (widthsOf n) mustList) k either ≡ mustAt f) sum
+            (form-at f (widthsOf n) mustList (p - startOf f n) h (omega (arith, from, to, end-is f n)))
 
     pub not-complete : f < 9 → complete frame ≡ false
     unfolding complete crcStart

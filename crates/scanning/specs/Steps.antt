@@ -4,7 +4,7 @@ use mathlib.Core.Path.{_≡_}
 use mathlib.Core.Bool.{Bool, cond, not, _||_}
 use mathlib.Core.List.{List, [], _∷_, _++_}
 use lib.Dec.{eqb, leb, ltb}
-use lib.ListN.{length, getD, replicate}
+use lib.ListN.{length, getD, set, replicate}
 use Rattle.bits.specs.Rows.{bits}
 use Rattle.refusals.specs.declared.Refusal.the-variants.{FieldLength, LineByte, StuffBit, LineLength, Crc, FixedBit}
 use Rattle.crc.specs.Crc.{crc}
@@ -12,36 +12,44 @@ use Rattle.crc.specs.Dlc.{dataBytes}
 use Rattle.scanning.specs.Form.{either, fits}
 use Rattle.scanning.specs.Scan.{identifierIn, dlcIn, Scanned, whole, stopped}
 use Rattle.scanning.specs.Held.{dataIn}
-use Rattle.scanning.specs.declared.fields.Field.{Field}
 use Rattle.scanning.specs.declared.seen.Seen.{Seen}
 use Rattle.scanning.specs.declared.seen.Step.{Step}
 use Rattle.scanning.specs.declared.seen.Step.the-variants.{Next, Refused}
 
--- so many bits, each of them this bit; and each of them 0 or 1
-abbrev pub fixedRow : ℕ → ℕ → Field
-fixedRow count bit = record { bits = count; bit = bit }
-
-abbrev pub freeRow : ℕ → Field
-freeRow count = record { bits = count; bit = either }
-
--- the rows that the code reads by: the fields of a frame with n data bytes, neighbours that must be the same bit in one row
-unfoldable pub rowsOf : ℕ → List Field
-rowsOf n =
-    fixedRow 1 0  -- start of frame
-    ∷ freeRow 11  -- identifier
-    ∷ fixedRow 3 0  -- RTR, IDE, reserved bit
-    ∷ freeRow 4  -- DLC
-    ∷ freeRow (8 * n)  -- data
-    ∷ freeRow 15  -- CRC
-    ∷ fixedRow 1 1  -- CRC delimiter
-    ∷ freeRow 1  -- ACK slot
-    ∷ fixedRow 8 1  -- ACK delimiter, end bits
+-- the rows that the code reads by, the fields of a frame with n data bytes, neighbours that must be the same bit in one row: how many
+-- bits each has
+unfoldable pub widthsOf : ℕ → List ℕ
+widthsOf n =
+    1  -- start of frame
+    ∷ 11  -- identifier
+    ∷ 3  -- RTR, IDE, reserved bit
+    ∷ 4  -- DLC
+    ∷ 8 * n  -- data
+    ∷ 15  -- CRC
+    ∷ 1  -- CRC delimiter
+    ∷ 1  -- ACK slot
+    ∷ 8  -- ACK delimiter, end bits
     ∷ []
 
--- the bit that must stand at each position of these
-unfoldable pub formOf : List Field → List ℕ
-formOf [] = []
-formOf (field ∷ l) = replicate (field .bits) (field .bit) ++ formOf l
+-- and the bit that each of these must be
+unfoldable pub mustList : List ℕ
+mustList =
+    0  -- start of frame
+    ∷ either  -- identifier
+    ∷ 0  -- RTR, IDE, reserved bit
+    ∷ either  -- DLC
+    ∷ either  -- data
+    ∷ either  -- CRC
+    ∷ 1  -- CRC delimiter
+    ∷ either  -- ACK slot
+    ∷ 1  -- ACK delimiter, end bits
+    ∷ []
+
+-- the bit that must stand at each position of such rows
+unfoldable pub formOf : List ℕ → List ℕ → List ℕ
+formOf [] must = []
+formOf (width ∷ widths) [] = []
+formOf (width ∷ widths) (bit ∷ must) = replicate width bit ++ formOf widths must
 
 -- the place that comes first
 unfoldable pub least : ℕ → ℕ → ℕ
@@ -66,7 +74,6 @@ behindStuffBit raw line seen =
       number = seen .number;
       header = seen .header;
       field = seen .field;
-      «data_bits» = seen .«data_bits»;
     }
 
 -- one place on, with these raw bits and this number
@@ -80,7 +87,6 @@ oneOn raw number seen =
       number = number;
       header = seen .header;
       field = seen .field;
-      «data_bits» = seen .«data_bits»;
     }
 
 -- what is seen behind a bit; it is kept up to the CRC
@@ -145,7 +151,6 @@ headerRead seen =
       number = 0;
       header = seen .number;
       field = seen .field;
-      «data_bits» = 8 * (seen .number % 16);
     }))
 
 -- behind the last data bit the data field is whole
@@ -159,7 +164,6 @@ fieldRead seen =
       number = 0;
       header = seen .header;
       field = seen .number;
-      «data_bits» = 0;
     })
 
 -- behind the last bit of the CRC: 12, or it is right
@@ -173,9 +177,16 @@ unfoldable pub partEnd : ℕ → Seen → Step
 partEnd f seen =
     cond (eqb f 3) (headerRead seen) (cond (eqb f 4) (fieldRead seen) (cond (eqb f 5) (crcRead seen) (Next seen)))
 
+-- and how many bits the rows then have: the DLC tells those of the data
+unfoldable pub partWidths : ℕ → Seen → List ℕ → List ℕ
+partWidths f seen widths = cond (eqb f 3) (set widths 4 (8 * (seen .number % 16))) widths
+
 -- where reading stops in row f: 11 where the line ends before the row
 unfoldable pub fieldEnd : ℕ → Seen → Step
 fieldEnd f seen = cond (ltb (seen .place) (seen .end)) (Refused (LineLength (seen .place))) (partEnd f seen)
+
+unfoldable pub widthsEnd : ℕ → Seen → List ℕ → List ℕ
+widthsEnd f seen widths = cond (ltb (seen .place) (seen .end)) widths (partWidths f seen widths)
 
 -- the registers hold identifier, DLC and data bits of the frame
 pub record Holds (seen : Seen) (frame : List ℕ) : Type 0 where

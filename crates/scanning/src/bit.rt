@@ -18,7 +18,7 @@ pub(crate) fn next(line: &[u8], field: usize, must: u8, seen: Seen) -> Step
     if fields::CRC < field {
         return ending(line, field, must, seen);
     }
-    // The stuff bit and, before it, a bit of the other value.
+    // The raw bits behind a stuff bit: it and, before it, a bit of the other value.
     match stuffing::pass(line, 1 + seen.raw % 2, seen) {
         Step::Next(next) => field_bit(line, must, next),
         Step::Refused(refusal) => Step::Refused(refusal),

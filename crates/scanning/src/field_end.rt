@@ -1,27 +1,30 @@
 // What a field shows once its last bit is read.
 ghost use mathlib.Core.Path.{_≡_};
-ghost use Prim.Native.Nat.{_<_};
-ghost use Rattle.scanning.specs.Steps.{headerRead, fieldRead, crcRead, partEnd, fieldEnd};
+ghost use Prim.Native.Nat.{_*_, _%_, _<_};
+ghost use lib.ListN.{set};
+ghost use Rattle.scanning.specs.Steps.{headerRead, fieldRead, crcRead, partEnd, partWidths, fieldEnd, widthsEnd};
 use crate::fields;
 use crate::seen::Seen;
 use crate::seen::Step;
 use refusals::Refusal;
 
 // Refused with 11 where the line ends within the field; with 3 behind the DLC and with 12 behind the CRC, at the bit before.
-pub(crate) fn judge(field: usize, seen: Seen) -> Step
+pub(crate) fn judge(widths: &mut [u8; 9], field: usize, seen: Seen) -> Step
     requires { ⌜ 0 < seen .end ⌝ }
-    ensures { λ r. ⌜ r ≡ fieldEnd field seen ⌝ }
+    ensures answer { λ r. ⌜ r ≡ fieldEnd field seen ⌝ }
+    ensures memory { λ _. ⌜ now (widths .exit) ≡ widthsEnd field seen (now (widths .entry)) ⌝ }
 {
     if seen.place < seen.end {
         return Step::Refused(Refusal::LineLength(seen.place));
     }
-    part(field, seen)
+    part(widths, field, seen)
 }
 
 // DLC, data and CRC are each the last of a part.
-fn part(field: usize, seen: Seen) -> Step
+fn part(widths: &mut [u8; 9], field: usize, seen: Seen) -> Step
     requires { ⌜ 0 < seen .place ⌝ }
-    ensures { λ r. ⌜ r ≡ partEnd field seen ⌝ }
+    ensures answer { λ r. ⌜ r ≡ partEnd field seen ⌝ }
+    ensures memory { λ _. ⌜ now (widths .exit) ≡ partWidths field seen (now (widths .entry)) ⌝ }
 {
     if field < fields::DLC {
         return Step::Next(seen);
@@ -30,7 +33,7 @@ fn part(field: usize, seen: Seen) -> Step
         return Step::Next(seen);
     }
     if field == fields::DLC {
-        return header(seen);
+        return header(widths, seen);
     }
     if field == fields::DATA {
         return data(seen);
@@ -38,11 +41,14 @@ fn part(field: usize, seen: Seen) -> Step
     check(seen)
 }
 
-fn header(seen: Seen) -> Step
+// The DLC tells how many bits the data have.
+fn header(widths: &mut [u8; 9], seen: Seen) -> Step
     requires { ⌜ 0 < seen .place ⌝ }
-    ensures { λ r. ⌜ r ≡ headerRead seen ⌝ }
+    ensures answer { λ r. ⌜ r ≡ headerRead seen ⌝ }
+    ensures memory { λ _. ⌜ now (widths .exit) ≡ set (now (widths .entry)) 4 (8 * (seen .number % 16)) ⌝ }
 {
     let n = seen.number % 16;
+    widths[fields::DATA] = (8 * n) as u8;
     if n == 1 {
         return Step::Refused(Refusal::FieldLength(seen.place - 1));
     }
@@ -51,7 +57,6 @@ fn header(seen: Seen) -> Step
     }
     let mut next = seen;
     next.header = next.number;
-    next.data_bits = 8 * (n as usize);
     next.number = 0;
     Step::Next(next)
 }
@@ -61,7 +66,6 @@ fn data(seen: Seen) -> Step
 {
     let mut next = seen;
     next.field = next.number;
-    next.data_bits = 0;
     next.number = 0;
     Step::Next(next)
 }

@@ -1,16 +1,8 @@
-// The fields of a frame, as rows of data.
+// The fields of a frame in the order they are sent, as two tables; neighbours that must be the same bit are one field.
 ghost use mathlib.Core.Path.{_≡_};
-ghost use Rattle.scanning.specs.Steps.{rowsOf};
+ghost use Rattle.scanning.specs.Steps.{widthsOf, mustList};
 
-// A field of a frame; or neighbours that must be the same bit.
-pub(crate) struct Field {
-    // How many bits it has; 0 for the data, whose bytes the DLC counts.
-    pub bits: u8,
-    // The bit that each of them must be; 2 where either may stand.
-    pub bit: u8,
-}
-
-// How many rows there are, and those that the code must tell from the others.
+// How many there are, and those that the code must tell from the others.
 pub(crate) const COUNT: usize = 9;
 
 pub(crate) const DLC: usize = 3;
@@ -21,21 +13,40 @@ pub(crate) const CRC: usize = 5;
 
 pub(crate) const CRC_DELIMITER: usize = 6;
 
-const FIELDS: [Field; 9] = [
-    Field { bits: 1, bit: 0 }, // start of frame
-    Field { bits: 11, bit: 2 }, // identifier
-    Field { bits: 3, bit: 0 }, // RTR, IDE, reserved bit
-    Field { bits: 4, bit: 2 }, // DLC
-    Field { bits: 0, bit: 2 }, // data
-    Field { bits: 15, bit: 2 }, // CRC
-    Field { bits: 1, bit: 1 }, // CRC delimiter
-    Field { bits: 1, bit: 2 }, // ACK slot
-    Field { bits: 8, bit: 1 }, // ACK delimiter, end bits
+const WIDTHS: [u8; 9] = [
+    1, // start of frame
+    11, // identifier
+    3, // RTR, IDE, reserved bit
+    4, // DLC
+    0, // data
+    15, // CRC
+    1, // CRC delimiter
+    1, // ACK slot
+    8, // ACK delimiter, end bits
 ];
 
-// The fields in the order they are sent.
-pub(crate) fn all() -> [Field; 9]
-    ensures { λ r. ⌜ r ≡ rowsOf 0 ⌝ }
+const MUST: [u8; 9] = [
+    0, // start of frame
+    2, // identifier
+    0, // RTR, IDE, reserved bit
+    2, // DLC
+    2, // data
+    2, // CRC
+    1, // CRC delimiter
+    2, // ACK slot
+    1, // ACK delimiter, end bits
+];
+
+// How many bits each field has. The data have none until the DLC is read, which counts their bytes.
+pub(crate) fn widths() -> [u8; 9]
+    ensures { λ r. ⌜ r ≡ widthsOf 0 ⌝ }
 {
-    FIELDS
+    WIDTHS
+}
+
+// The bit that each bit of a field must be; 2 where either may stand.
+pub(crate) fn must() -> [u8; 9]
+    ensures { λ r. ⌜ r ≡ mustList ⌝ }
+{
+    MUST
 }

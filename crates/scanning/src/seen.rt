@@ -16,8 +16,6 @@ pub(crate) struct Seen {
     // The header and the data field, once they are read.
     pub header: u64,
     pub field: u64,
-    // How many bits the data field has, from its DLC to its end; 0 before and behind.
-    pub data_bits: usize,
 }
 
 // What is seen behind a bit, a field or the whole line; or the first problem met.
@@ -35,5 +33,4 @@ pub(crate) const NOTHING: Seen = Seen {
     number: 0,
     header: 0,
     field: 0,
-    data_bits: 0,
 };

@@ -14,7 +14,8 @@ use refusals::Refusal;
 pub(crate) fn along(line: &[u8]) -> Step
     ensures { λ r. ⌜ Reads r (scanned (now (line .entry))) ⌝ }
 {
-    let fields = fields::all();
+    let mut widths = fields::widths();
+    let must = fields::must();
     let mut seen = seen::NOTHING;
     let mut i = 0;
     'line: loop {
@@ -24,11 +25,10 @@ pub(crate) fn along(line: &[u8]) -> Step
             }
             break 'line Step::Next(seen);
         }
-        let field = fields[i];
-        seen.end = seen.place + field.bits as usize + seen.data_bits;
+        seen.end = seen.place + widths[i] as usize;
         seen.stop = places::least(seen.end, line.len());
         while seen.place < seen.stop {
-            match bit::next(line, i, field.bit, seen) {
+            match bit::next(line, i, must[i], seen) {
                 Step::Next(next) => {
                     seen = next;
                 }
@@ -37,7 +37,7 @@ pub(crate) fn along(line: &[u8]) -> Step
                 }
             }
         }
-        match field_end::judge(i, seen) {
+        match field_end::judge(&mut widths, i, seen) {
             Step::Next(next) => {
                 seen = next;
             }
