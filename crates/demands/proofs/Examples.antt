@@ -38,7 +38,7 @@ bounds-right = refl and refl and refl and refl and tt
 
 pub stuffed-crc-right : AllRight ofStuffedCrc
 unfolding bits number unpacked packed equalNeighbours words wordOf padding fieldBits fieldOf stuffAfter runAfter stuffed stuffCount runAfterRow header xor divide remainder crc crcBits stuffedRow lineOf frameLine stuffBitsIn lengthAnswer
-stuffed-crc-right = (refl, refl, refl, refl) and refl and (refl, refl, refl, refl) and refl and (refl, refl, refl, refl) and tt
+stuffed-crc-right = (refl, refl, refl, refl) and refl and (refl, refl, refl, refl) and refl and (refl, refl, refl, refl) and (refl, refl, refl, refl) and tt
 
 pub table-right : AllRight bySize
 table-right = (refl, refl, refl, refl) and (refl, refl, refl, refl) and (refl, refl, refl, refl) and (refl, refl, refl, refl) and (refl, refl, refl, refl) and (refl, refl, refl, refl) and (refl, refl, refl, refl) and (refl, refl, refl, refl) and tt

@@ -16,7 +16,7 @@ use Rattle.frame.specs.Answers.{payloadLine, lengthAnswer, boundsAnswer, bounds
 
 -- a payload codes as a field; a field decodes, with room for seven bytes, to a refusal; the frame of an identifier and a payload has a
 -- CRC, so many stuff bits in the header and in the CRC, and so many bits; its line has these bits from a place on; asking for the bounds
--- of an identifier and a size is answered so; a payload's size has, in the table, field bytes, break bit, word bits and padding bits [16.1]
+-- of an identifier and a size is answered so; a payload's size has, in the table, field bytes, break bit, word bits and padding bits [3.7, 16.1, 16.2, 16.4]
 pub data Case : Type 0 where
   codes : List ℕ → List ℕ → Case
   refuses : List ℕ → Numbers → Case
@@ -53,13 +53,15 @@ ofBounds =
     ∷ bounds 2048 0 (8 at 0)
     ∷ []
 
--- a CRC that ends in five 1s, and one that ends in five 0s: behind the five, at place 54, the stuff bit; the longest frame [16.4]
+-- a CRC that ends in five 1s, and one that ends in five 0s: behind the five, at place 54, the stuff bit; four stuff bits in the CRC for
+-- seven and for eight bytes of data, the last the longest frame [16.4]
 abbrev pub ofStuffedCrc : List Case
 ofStuffedCrc =
     frames 0 (0x77 ∷ []) 0x07DF 3 2 65
     ∷ ends 0 (0x77 ∷ []) 49 (replicate 5 1 ++ (0 ∷ replicate 10 1))
     ∷ frames 0 (0x5F ∷ []) 0x7E20 3 2 65
     ∷ ends 0 (0x5F ∷ []) 49 (replicate 5 0 ++ (1 ∷ replicate 10 1))
+    ∷ frames 0 (0x00 ∷ 0x00 ∷ 0x00 ∷ 0x01 ∷ 0x3E ∷ 0xBD ∷ []) 0x1E00 3 4 107
     ∷ frames 0 (0x00 ∷ 0x00 ∷ 0x00 ∷ 0x00 ∷ 0x00 ∷ 0x82 ∷ 0xA6 ∷ []) 0x70F0 3 4 115
     ∷ []
 
@@ -76,7 +78,7 @@ bySize =
     ∷ row 7 8 (1 ∷ []) 63 0
     ∷ []
 
--- what the definitions give is what the paper says [16.1, 16.2, 16.4]
+-- what the definitions give is what the paper says [3.7, 16.1, 16.2, 16.4]
 abbrev pub Right : Case → Type 0
 Right (codes payload field) = fieldOf payload ≡ field
 Right (refuses field numbers) = answerNumbers (decodeAnswer field 7) ≡ numbers

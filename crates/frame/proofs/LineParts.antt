@@ -1,5 +1,6 @@
 -- The parts of a line, over any header and any data field. Assumes nothing.
 --     stuffCount-three    the stuff bits of three rows one behind the other, from the start of frame
+--     crc-length      the CRC has 15 bits
 --     line-length     a line's bits are those of its parts and the stuff bits
 --     after-header, after-data, after-crc    the stuff bits that follow bits of a part, by the part alone and the run before it
 --     line-parts      a line in two parts, of which the second follows the data field

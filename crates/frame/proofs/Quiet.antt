@@ -2,7 +2,7 @@
 --     quiet-sent       such a row goes out as it is
 --     quiet-field      the run that a field leaves is that of its last four bits
 --     header-drawn, header-run-is, header-sent    of a header's stuff bits, run and bits the first three are told by themselves
---     check-drawn, check-sent    the bit behind the CRC draws none; what goes out
+--     check-drawn, check-sent    the bit added to the CRC draws none; what goes out
 use mathlib.Core.Path.{_≡_, refl, sym, ap, ap₂, _∙_}
 use mathlib.Core.List.{List, [], _∷_, _++_}
 use Prim.Native.Nat.{ℕ, zero, suc, _+_, _-_, _*_, _/_, _%_, _^_, _≤_, _<_}

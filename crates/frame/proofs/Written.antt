@@ -5,7 +5,7 @@
 --     written-behind      two rows are written one behind the other, with their stuff bits
 --     written-header      a header is written, its first three bits as they are
 --     written-field       a field that draws no stuff bit is written as it is
---     written-tail        what follows it: the bit behind the CRC is written over
+--     written-tail        what follows it: the bit added to the CRC is written over
 --     tail-room           the room that this takes
 --     written-line        a row is written from the start of a line on, and bits as they are behind it
 use mathlib.Core.Path.{_≡_, refl, sym, ap, _∙_}

@@ -59,7 +59,7 @@ fn field(bytes: &[u32; 16], field: u64, n: usize, spot: Spot, line: &mut [u8]) -
 }
 
 // Writes what follows the data field, the CRC and the ten bits 1 that are never stuffed; the length of the line. The first of these is
-// written over the bit that goes out behind the CRC.
+// written over the bit that `stuffing::check` adds to the CRC.
 fn tail(list: &[u8; 256], bytes: &[u32; 16], crc: u64, spot: Spot, line: &mut [u8]) -> usize
     requires { ⌜ (now list ≡ sentList) × (now bytes ≡ byteList) × (crc < 2 ^ 15) × (spot .last < 16) × (spot .at + length (tailRow (runOf (spot .last)) crc) ≤ length (now line)) ⌝ }
     ensures { λ r. ⌜ (now (line .exit) ≡ sets (now (line .entry)) (spot .at) (tailRow (runOf (spot .last)) crc)) × (r ≡ spot .at + length (tailRow (runOf (spot .last)) crc)) ⌝ }
