@@ -277,15 +277,15 @@ static bool receive_field_and_crc(struct reader *reader, struct frame *frame)
     }
     if (!receive(reader, CRC_BITS))
         return false;
-    if (reader->value != crc_of_frame(frame))
-        return refuse(reader, PRUSHGOLI_CRC);
-    return reader->run.length < MOST_EQUAL || next_stuff_bit(reader);
+    return reader->value == crc_of_frame(frame) || refuse(reader, PRUSHGOLI_CRC);
 }
 
-/* CRC delimiter, ACK slot, ACK delimiter and seven end bits, not stuffed; then nothing. */
+/* The stuff bit that the CRC may draw; CRC delimiter, ACK slot, ACK delimiter and seven end bits; then nothing. */
 static bool receive_tail(struct reader *reader)
 {
     unsigned bit;
+    if (reader->run.length == MOST_EQUAL && !next_stuff_bit(reader))
+        return false;
     for (unsigned i = 0; i < TAIL_BITS; i++) {
         if (!next_bit(reader, &bit))
             return false;
