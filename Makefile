@@ -74,10 +74,11 @@ can-fail: lib target/bin/trace
 	@if [ -f build/evidence/index.html ]; then tests/evidence/can-fail; \
 	else echo 'make can-fail: no fault of the page was tried: there is none, make evidence makes it' >&2; fi
 
-# Not part of the gate: it installs sigrok-cli.
+# Not part of the gate, which should not hang on what the peers will be. The closing line is said again at the end.
 peers: lib
 	@tests/peers/run
 	@tests/peers/can-fail
+	@tail -n 1 build/peers/said
 
 # On a machine that is not x86-64 the program runs under qemu, which tests/x86-64 installs.
 run: readable target/bin/trace

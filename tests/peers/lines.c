@@ -1,6 +1,6 @@
 /* Writes lines that the archive makes, and what we say of each: a row of text with identifier, DLC, data bytes, CRC,
- * places of the stuff bits, the five bits before a stuff bit behind the last CRC bit, length, and the line itself. What
- * there is none of is a -. */
+ * places of the stuff bits, the five bits before a stuff bit behind the last CRC bit, length, the line itself, and the bit
+ * in its ACK slot. What there is none of is a -. */
 #include "random.h"
 #include <prushgoli.h>
 #include <stdio.h>
@@ -10,13 +10,15 @@
 enum {
     IDENTIFIERS = 0x7F0, /* from here on CAN 2.0 forbids them, and sigrok's decoder warns */
     HEADER = 19,
-    CRC = 15
+    CRC = 15,
+    FROM_ACK_SLOT = 9 /* bits to the end of the line */
 };
 
 struct frame {
     uint32_t identifier;
     uint8_t payload[PRUSHGOLI_PAYLOAD_MOST];
     size_t size;
+    uint8_t ack; /* 1, as it is made, or 0, as a receiver on the bus has it */
 };
 
 struct line {
@@ -56,6 +58,7 @@ static struct line line_of(const struct frame *frame)
          frame, "something else read from the line");
     line.dlc = prushgoli_length(encoded);
     line.length = prushgoli_length(made);
+    line.bit[line.length - FROM_ACK_SLOT] = frame->ack;
     return line;
 }
 
@@ -93,18 +96,19 @@ static void write_row(const struct frame *frame)
     printf("%s %s %u ", reading.stuff_bits == 0 ? "-" : "", reading.five_before, line.length);
     for (unsigned i = 0; i < line.length; i++)
         putchar('0' + line.bit[i]);
-    putchar('\n');
+    printf(" %u\n", frame->ack);
 }
 
-/* Two whose CRC ends in five 1s and in five 0s; then each identifier with each size: hundreds of them end so too. */
+/* Two whose CRC ends in five 1s and in five 0s; then each identifier with each size: hundreds draw that stuff bit too. */
 int main(void)
 {
-    static const struct frame known[] = {{.payload = {0x77}, .size = 1}, {.payload = {0x5F}, .size = 1}};
-    write_row(&known[0]);
-    write_row(&known[1]);
+    for (uint8_t ack = 0; ack < 2; ack++) {
+        write_row(&(struct frame){.payload = {0x77}, .size = 1, .ack = ack});
+        write_row(&(struct frame){.payload = {0x5F}, .size = 1, .ack = ack});
+    }
     for (uint32_t identifier = 0; identifier < IDENTIFIERS; identifier++)
         for (size_t size = 0; size <= PRUSHGOLI_PAYLOAD_MOST; size++) {
-            struct frame frame = {.identifier = identifier, .size = size};
+            struct frame frame = {.identifier = identifier, .size = size, .ack = (identifier + size) % 2};
             random_bytes(frame.payload, size);
             write_row(&frame);
         }
