@@ -70,7 +70,8 @@ def lengths_section(runs):
     return f"""<section id="lengths">
 <h2>4. Frame lengths, plain CAN beside 8B9B</h2>
 <p>Every frame was sent twice with the same identifier and payload. In 8B9B: the library’s frame. Plain: the payload’s own bytes as data
-field, the DLC its size, the same header, CRC and stuffing rule, built by the second program (<code>tests/second</code>).</p>
+field, the DLC its size, the same header, CRC and stuffing, to the last CRC bit, built by the second program
+(<code>tests/second</code>).</p>
 <figure>
 {plot(runs, SIZE)}
 <figcaption>Payloads of {SIZE} bytes. Above: random identifiers, random payloads, {sent[0]:,} frames, seed {escape(runs.seed)} hex.

@@ -94,8 +94,8 @@ uint64_t prushgoli_frame_length(uint32_t identifier, const uint8_t *payload, siz
 uint64_t prushgoli_frame_bounds(uint32_t identifier, size_t payload_len);
 
 /*
- * Makes the line of a frame: one byte, 0 or 1, for each bit, in the order sent; the ACK slot is 1. Length: its bits, as
- * prushgoli_frame_length tells.
+ * Makes the line of a frame: one byte, 0 or 1, for each bit, in the order sent, stuffed to the last CRC bit as in
+ * ISO 11898-1; the ACK slot is 1. Length: its bits, as prushgoli_frame_length tells.
  * Room: PRUSHGOLI_LINE_ROOM for every frame, short or long.
  * Refusals, in this order: 8, 1, 2; place 0.
  */
@@ -107,8 +107,8 @@ uint64_t prushgoli_make_frame(uint32_t identifier, const uint8_t *payload, size_
  * payload's bytes; prushgoli_identifier: the identifier.
  * Room: the payload's bytes; PRUSHGOLI_PAYLOAD_MOST is enough for all.
  * Refusals: the first problem met from the left, and nothing to its right is looked at. At one bit the order is 11, 9,
- * 10, 13; 3 comes with the fourth DLC bit and 12 with the last CRC bit, each after 11, 9 and 10 there; bits too many,
- * 11, come after the last end bit. Then 2, and 4 to 7 of the data field, in the order and with the places that
+ * 10, 13; 3 comes with the fourth DLC bit and 12 with the last CRC bit, each after 11, 9 and 10 there and before a stuff
+ * bit behind it; bits too many, 11, come after the last end bit. Then 2, and 4 to 7 of the data field, in the order and with the places that
  * prushgoli_decode gives.
  */
 uint64_t prushgoli_read_line(const uint8_t *line, size_t line_len, uint8_t *payload, size_t payload_room);

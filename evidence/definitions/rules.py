@@ -1,6 +1,6 @@
 """The rules of docs/FORMAT.md: a paragraph that starts with its number in bold, **3.2**, and all up to the next rule or heading.
 
-A rule ends its paragraph with a bracket, (01, Words), which may say what holds it where no definition does.
+A rule ends its paragraph with a bracket, (01, Words) or (02, #102), which may say what holds it where no definition does.
 """
 import re
 from collections import namedtuple
@@ -10,7 +10,7 @@ from reading import lines_of, require
 FORMAT = "docs/FORMAT.md"
 HEADING = re.compile(r"## (\d+)\. (.*)")
 START = re.compile(r"\*\*(\d+\.\d+)\*\* ")
-BRACKET = re.compile(r"\((?:01, [^()]+|decided: DECISIONS\.md)\)$")
+BRACKET = re.compile(r"\((?:0[12], [^()]+|decided: DECISIONS\.md)\)$")
 # What holds a rule that no definition says.
 EXCUSES = ("said by the contracts", "run, not proved")
 
@@ -36,7 +36,7 @@ def order(number):
 
 def excuse_of(number, lines):
     bracket = BRACKET.search(" ".join(lines))
-    require(bracket, f"{FORMAT}: rule {number} does not end with what it stands for, like (01, Words)")
+    require(bracket, f"{FORMAT}: rule {number} does not end with what it stands for, like (01, Words) or (02, #102)")
     return next((excuse for excuse in EXCUSES if excuse in bracket[0]), None)
 
 
