@@ -19,8 +19,8 @@ use Rattle.refusals.specs.declared.Answer.{Answer}
 use Rattle.refusals.specs.declared.Answer.the-variants.{Refused}
 use Rattle.refusals.specs.declared.Refusal.{Refusal}
 use Rattle.refusals.specs.Table.{numberOf, placeOf}
-use Rattle.refusals.proofs.Table.{number-some}
-use Rattle.refusals.proofs.Given.{Order, GivenAt, Answers, number-most}
+use Rattle.refusals.specs.Among.{Among}
+use Rattle.refusals.proofs.Given.{Order, GivenAt, Answers, number-among}
 use Rattle.words.specs.declared.Symbol.{Symbol}
 use Rattle.words.specs.declared.Symbol.the-variants.{Byte, Escape, Nothing}
 use Rattle.field.specs.Sizes.{breakBit, paddingBits}
@@ -125,18 +125,19 @@ module _ (field : List ℕ) (room : ℕ) where
   decode-given = by-length (eqb (length field) 1) refl (ltb 8 (length field)) refl
 
   pub decode-numbers : LengthAllowed field → (r : Refusal) → decodeAnswer field room ≡ Refused r
-      → (2 ≤ numberOf r) × (numberOf r ≢ 3) × (numberOf r ≤ 7)
-  decode-numbers right r e = (omega (arith, number-some r, other), λ three. length-right (at 3 three .0), number-most decodeOrder r given-here)
+      → Among (2 ∷ 4 ∷ 5 ∷ 6 ∷ 7 ∷ []) (numberOf r)
+  decode-numbers right r e = go (number-among decodeOrder r given-here)
     where
       given-here : GivenAt decodeOrder (numberOf r) (placeOf r)
       given-here = subst Decoded e decode-given
 
-      at : (k : ℕ) → numberOf r ≡ k → GivenAt decodeOrder k (placeOf r)
-      at k is = subst (λ (n : ℕ). GivenAt decodeOrder n (placeOf r)) is given-here
-
-      other : numberOf r ≢ 1
-      other one = at 1 one
+      three : numberOf r ≡ 3 → GivenAt decodeOrder 3 (placeOf r)
+      three is = subst (λ (n : ℕ). GivenAt decodeOrder n (placeOf r)) is given-here
 
       length-right : (length field ≡ 1) ⊎ (8 < length field) → ⊥
       length-right (inl one) = right .not-one one
       length-right (inr long) = omega (arith, long, right .at-most)
+
+      go : Among (3 ∷ 2 ∷ 4 ∷ 5 ∷ 6 ∷ 7 ∷ []) (numberOf r) → Among (2 ∷ 4 ∷ 5 ∷ 6 ∷ 7 ∷ []) (numberOf r)
+      go (inl is) = absurd (length-right (three is .0))
+      go (inr other) = other

@@ -25,6 +25,7 @@ use Rattle.scanning.specs.Scan.{scanned}
 use Rattle.scanning.specs.Held.{heldIn, heldNumbers}
 use Rattle.scanning.specs.declared.Held.{Held}
 use Rattle.scanning.specs.declared.Held.the-variants as held
+use Rattle.scanning.specs.declared.Reading.{Reading}
 use Rattle.line.specs.Read.{readAnswer, lineNumbers}
 use Rattle.line.proofs.FromScan.{from-refused}
 
@@ -47,11 +48,11 @@ module _ (n v room : ℕ) where
   pub number-decoded : v < 2 ^ (8 * n) → numberAnswer n v room ≡ decodeAnswer (fieldFrom n v) room
   number-decoded fits = numbers.number-fits n v room fits
 
-pub scan-passed : (line : List ℕ) (room : ℕ) →
-    let scan = heldIn (scanned line) in
-    0 < heldNumbers scan .refusal → lineNumbers (readAnswer line room) ≡ heldNumbers scan
-scan-passed line room = go (heldIn (scanned line)) refl
+pub scan-passed : (reading : Reading) (line : List ℕ) (room : ℕ) →
+    let scan = heldIn (scanned reading line) in
+    0 < heldNumbers scan .refusal → lineNumbers (readAnswer reading line room) ≡ heldNumbers scan
+scan-passed reading line room = go (heldIn (scanned reading line)) refl
   where
-    go : (h : Held) → heldIn (scanned line) ≡ h → 0 < heldNumbers h .refusal → lineNumbers (readAnswer line room) ≡ heldNumbers h
+    go : (h : Held) → heldIn (scanned reading line) ≡ h → 0 < heldNumbers h .refusal → lineNumbers (readAnswer reading line room) ≡ heldNumbers h
     go (held.Frame identifier n field) e some = absurd (omega arith)
-    go (held.Refused r) e some = ap lineNumbers (from-refused line room r e)
+    go (held.Refused r) e some = ap lineNumbers (from-refused reading line room r e)

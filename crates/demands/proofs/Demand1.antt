@@ -4,9 +4,9 @@
 -- they ask of a caller and what they tell it. Inputs i, and the parameters s after the call, are in the order of the signature: .0 the
 -- first, .1 .0 the second. That each entry meets its contract is in Meets, that its run ends in Runs and Ends; what it checks is in
 -- Exactly, LineRefusals and RecordsExactly. Assumes nothing.
---     c-encode-settled and five more    the calls for C
---     encode-settled and eleven more    document 01's calls in Rattle
---     code-settled and twelve more      the calls between the crates
+--     c-encode-settled and six more     the calls for C
+--     encode-settled and twelve more    the documents' calls in Rattle
+--     code-settled and thirteen more    the calls between the crates
 use mathlib.Core.Path.{_≡_, refl, ap, subst, _∙_}
 use mathlib.Core.List.{List}
 use Prim.Native.Nat.{ℕ, _<_}
@@ -22,7 +22,7 @@ use Rattle.field.specs.Encode.{encodeAnswer}
 use Rattle.field.specs.Coded.{fieldFrom}
 use Rattle.decoding.specs.Decode.{decodeAnswer, payloadOf}
 use Rattle.frame.specs.Answers.{payloadLine, makeAnswer}
-use Rattle.line.specs.Read.{readAnswer, payloadIn, lineNumbers}
+use Rattle.line.specs.Read.{acknowledged, own, readAnswer, payloadIn, lineNumbers}
 use Rattle.report.specs.Report.{lineAt, reportedNumbers}
 use Rattle.prushgoli.specs.Packing.{pack, told}
 use Rattle.prushgoli.proofs.Packed.{Fits, told-back}
@@ -35,12 +35,14 @@ use Rattle.prushgoli.proofs.prushgoli_make_frame.Reads as c-make-frame
 use Rattle.prushgoli.proofs.prushgoli_frame_length.Reads as c-frame-length
 use Rattle.prushgoli.proofs.prushgoli_frame_bounds.Reads as c-frame-bounds
 use Rattle.prushgoli.proofs.prushgoli_read_line.Reads as c-read-line
+use Rattle.prushgoli.proofs.prushgoli_read_own_line.Reads as c-read-own-line
 use Rattle.field.proofs.encode.Reads as encode
 use Rattle.decoding.proofs.decode.Reads as decode
 use Rattle.frame.proofs.make_frame.Reads as make-frame
 use Rattle.frame.proofs.frame_length.Reads as frame-length
 use Rattle.frame.proofs.frame_bounds.Reads as frame-bounds
 use Rattle.line.proofs.read_line.Reads as read-line
+use Rattle.line.proofs.read_own_line.Reads as read-own-line
 use Rattle.records.proofs.record_at.Reads as record-at
 use Rattle.report.proofs.line_at.Reads as line-at
 use Rattle.words.proofs.word.Reads as word
@@ -53,6 +55,7 @@ use Rattle.field.proofs.padding.number_of.Reads as padding-number
 use Rattle.field.proofs.table.row_of.Reads as row-of
 use Rattle.crc.proofs.of_frame.Reads as of-frame
 use Rattle.scanning.proofs.scan.Reads as scan
+use Rattle.line.proofs.read.Reads as read
 use Rattle.words.proofs.word_in.Reads as word-in
 use Rattle.words.proofs.entry_in.Reads as entry-in
 use Rattle.words.proofs.is_escape.Reads as is-escape
@@ -100,10 +103,17 @@ pub c-read-line-settled : (κs : Lfts 2)
     → SettledWith (c-read-line.Asked κs) (c-read-line.Learnt κs) (λ a. told a .refusal) (λ i. now (i .1 .0)) (λ s. now (s .1 .0))
 c-read-line-settled κs =
     settled-with (λ i. tt) (λ i a s says. says) (λ i a is refused.
-    let answer = readAnswer (now (i .0)) (length (now (i .1 .0))) in
-    packed-old (lineNumbers answer) a (payloadIn (now (i .0))) (now (i .1 .0)) (read-fits _ _ answer refl) is refused)
+    let answer = readAnswer acknowledged (now (i .0)) (length (now (i .1 .0))) in
+    packed-old (lineNumbers answer) a (payloadIn acknowledged (now (i .0))) (now (i .1 .0)) (read-fits _ _ _ answer refl) is refused)
 
--- ---- document 01's calls in Rattle
+pub c-read-own-line-settled : (κs : Lfts 2)
+    → SettledWith (c-read-own-line.Asked κs) (c-read-own-line.Learnt κs) (λ a. told a .refusal) (λ i. now (i .1 .0)) (λ s. now (s .1 .0))
+c-read-own-line-settled κs =
+    settled-with (λ i. tt) (λ i a s says. says) (λ i a is refused.
+    let answer = readAnswer own (now (i .0)) (length (now (i .1 .0))) in
+    packed-old (lineNumbers answer) a (payloadIn own (now (i .0))) (now (i .1 .0)) (read-fits _ _ _ answer refl) is refused)
+
+-- ---- the documents' calls in Rattle
 
 pub encode-settled : (κs : Lfts 2)
     → SettledWith (encode.Asked κs) (encode.Learnt κs) (λ a. answerNumbers a .refusal) (λ i. now (i .1 .0)) (λ s. now (s .1 .0))
@@ -125,7 +135,11 @@ frame-bounds-settled κs = settled (λ i. tt) (λ i a s says. says)
 
 pub read-line-settled : (κs : Lfts 2)
     → SettledWith (read-line.Asked κs) (read-line.Learnt κs) (λ a. lineNumbers a .refusal) (λ i. now (i .1 .0)) (λ s. now (s .1 .0))
-read-line-settled κs = settled-with (λ i. tt) (λ i a s says. says) (λ i a is refused. some-keeps (payloadIn (now (i .0))) _ (lineNumbers a) refused)
+read-line-settled κs = settled-with (λ i. tt) (λ i a s says. says) (λ i a is refused. some-keeps (payloadIn acknowledged (now (i .0))) _ (lineNumbers a) refused)
+
+pub read-own-line-settled : (κs : Lfts 2)
+    → SettledWith (read-own-line.Asked κs) (read-own-line.Learnt κs) (λ a. lineNumbers a .refusal) (λ i. now (i .1 .0)) (λ s. now (s .1 .0))
+read-own-line-settled κs = settled-with (λ i. tt) (λ i a s says. says) (λ i a is refused. some-keeps (payloadIn own (now (i .0))) _ (lineNumbers a) refused)
 
 pub record-at-settled : (κs : Lfts 1) → Settled (record-at.Asked κs) (record-at.Learnt κs)
 record-at-settled κs = settled (λ i. tt) (λ i a s says. says)
@@ -166,6 +180,12 @@ of-frame-settled κs = settled (λ i. tt) (λ i a s says. says)
 
 pub scan-settled : (κs : Lfts 1) → Settled (scan.Asked κs) (scan.Learnt κs)
 scan-settled κs = settled (λ i. tt) (λ i a s says. says)
+
+pub read-settled : (κs : Lfts 2)
+    → SettledWith (read.Asked κs) (read.Learnt κs) (λ a. lineNumbers a .refusal) (λ i. now (i .1 .0)) (λ s. now (s .1 .0))
+read-settled κs =
+    settled-with (λ i. tt) (λ i a s says. says) (λ i a is refused.
+    some-keeps (payloadIn (i .1 .1 .0) (now (i .0))) _ (lineNumbers a) refused)
 
 pub word-in-settled : (κs : Lfts 1) → Settled (word-in.Asked κs) (word-in.Learnt κs)
 word-in-settled κs = settled (λ i. tt) (λ i a s says. says)

@@ -10,15 +10,18 @@
 --     field-left       given room, encoding leaves the field at the start of a lent buffer, and behind it the old bytes
 --     line-left        and making a frame the line
 --     field-back       what encoding leaves in a lent buffer decodes to the payload, into another
---     frame-back       what making leaves reads as the identifier and the payload, as it is and with 0 and 1 in the ACK slot
+--     frame-back       what making leaves, read as our own line, gives identifier and payload, as it is and with 0 in the ACK slot
+--     frame-heard      with 0 there, a frame that was heard, it gives them read as a line from a live bus too
 --     field-accepted   an accepted field is the one that coding gives for the payload that it answers
---     line-accepted    an accepted line is the one that making gives for identifier and payload, the ACK slot apart
+--     line-accepted    a line accepted as our own is the one that making gives for identifier and payload, the ACK slot apart; what is
+--                      accepted from a live bus is exactly said in Acknowledged
 use mathlib.Core.Path.{_≡_, refl, sym, ap, ap₂, _∙_}
 use mathlib.Core.Bool.{false}
 use mathlib.Core.Logic.{_↔_}
 use lib.Dec.{T}
 use mathlib.Core.List.{List, [], _∷_, _++_, map}
 use Prim.Native.Nat.{ℕ, _+_, _≤_, _<_}
+use native.Mathlib.Omega.{arith}
 use lib.ListN.{length, getD, take, drop, replicate}
 use lib.Seq.{take-at}
 use Rattle.bits.specs.Below.{Below}
@@ -48,11 +51,13 @@ use Rattle.frame.specs.Header.{header}
 use Rattle.frame.specs.Answers.{payloadLine, makeAnswer}
 use Rattle.frame.proofs.PayloadLine.{frame-is}
 use Rattle.frame.proofs.FrameAnswers.{make-accepts}
+use Rattle.scanning.specs.Scan.{slotMost}
+use Rattle.scanning.specs.declared.Reading.{Reading}
 use Rattle.line.specs.Ack.{withAck}
-use Rattle.line.specs.Read.{readAnswer, payloadIn, lineNumbers}
+use Rattle.line.specs.Read.{acknowledged, own, readAnswer, payloadIn, lineNumbers}
 use Rattle.line.specs.declared.Line.{Line}
 use Rattle.line.specs.declared.Line.the-variants.{Frame}
-use Rattle.line.proofs.RoundTrip.{Coded, own-ack, read-made, accepted-is-coded}
+use Rattle.line.proofs.RoundTrip.{Coded, own-ack, read-made, accepted-is-coded, coded-apart}
 
 -- ---- 8B9B as published, words by the ordering rule
 
@@ -127,22 +132,45 @@ module _ (payload buffer buffer′ : List ℕ) (bytes : Below 256 payload) (shor
       let carried = ap payloadOf left ∙ payload-of-field payload bytes short in
       (left, decoded, ap₂ (λ (a : Answer) (p : List ℕ). after (answerNumbers a) p buffer′) decoded carried)
 
+  -- what the frame's length takes of the buffer that making leaves
+  abbrev left-of : ℕ → List ℕ
+  left-of identifier =
+      let line = payloadLine identifier payload in
+      take (length line) (after (answerNumbers (makeAnswer identifier payload (length buffer))) line buffer)
+
+  left-is : (identifier : ℕ) → identifier ≤ 2047 → 116 ≤ length buffer → left-of identifier ≡ payloadLine identifier payload
+  left-is identifier known room =
+      let whole = payloadLine identifier payload in
+      ap (take (length whole)) (line-left identifier payload buffer known short room .1) ∙ take-at whole (drop (length whole) buffer) (length whole) refl
+
+  -- what a reading gives of what making leaves, with a bit in the ACK slot that it takes
+  read-back : (reading : Reading) (identifier ack : ℕ) → identifier ≤ 2047 → ack ≤ slotMost (reading .slot) → 116 ≤ length buffer →
+      let line = withAck ack (left-of identifier) in
+      (readAnswer reading line (length buffer′) ≡ Frame identifier (length payload))
+      × (after (lineNumbers (readAnswer reading line (length buffer′))) (payloadIn reading line) buffer′ ≡ payload ++ drop (length payload) buffer′)
+  read-back reading identifier ack known slot room =
+      let left = left-is identifier known room in
+      let own = read-made reading identifier payload ack (length buffer′) known bytes short fits slot in
+      let read = ap (λ (l : List ℕ). readAnswer reading (withAck ack l) (length buffer′)) left ∙ own .0 in
+      let carried = ap (λ (l : List ℕ). payloadIn reading (withAck ack l)) left ∙ own .1 in
+      (read, ap₂ (λ (a : Line) (p : List ℕ). after (lineNumbers a) p buffer′) read carried)
+
   pub frame-back : (identifier ack : ℕ) → identifier ≤ 2047 → ack < 2 → 116 ≤ length buffer →
-      let n = length (payloadLine identifier payload) in
-      let made = take n (after (answerNumbers (makeAnswer identifier payload (length buffer))) (payloadLine identifier payload) buffer) in
+      let made = left-of identifier in
       let line = withAck ack made in
       (withAck 1 made ≡ made)
-      × (readAnswer line (length buffer′) ≡ Frame identifier (length payload))
-      × (after (lineNumbers (readAnswer line (length buffer′))) (payloadIn line) buffer′ ≡ payload ++ drop (length payload) buffer′)
+      × (readAnswer own line (length buffer′) ≡ Frame identifier (length payload))
+      × (after (lineNumbers (readAnswer own line (length buffer′))) (payloadIn own line) buffer′ ≡ payload ++ drop (length payload) buffer′)
   frame-back identifier ack known slot room =
-      let whole = payloadLine identifier payload in
-      let n = length whole in
-      let left = ap (take n) (line-left identifier payload buffer known short room .1) ∙ take-at whole (drop n buffer) n refl in
-      let own = read-made identifier payload ack (length buffer′) known bytes short fits slot in
-      let read = ap (λ (l : List ℕ). readAnswer (withAck ack l) (length buffer′)) left ∙ own .0 in
-      let carried = ap (λ (l : List ℕ). payloadIn (withAck ack l)) left ∙ own .1 in
-      let same = ap (withAck 1) left ∙ own-ack identifier payload ∙ sym left in
-      (same, read, ap₂ (λ (a : Line) (p : List ℕ). after (lineNumbers a) p buffer′) read carried)
+      let left = left-is identifier known room in
+      let read = read-back own identifier ack known (omega arith) room in
+      (ap (withAck 1) left ∙ own-ack identifier payload ∙ sym left, read .0, read .1)
+
+  pub frame-heard : (identifier : ℕ) → identifier ≤ 2047 → 116 ≤ length buffer →
+      let line = withAck 0 (left-of identifier) in
+      (readAnswer acknowledged line (length buffer′) ≡ Frame identifier (length payload))
+      × (after (lineNumbers (readAnswer acknowledged line (length buffer′))) (payloadIn acknowledged line) buffer′ ≡ payload ++ drop (length payload) buffer′)
+  frame-heard identifier known room = read-back acknowledged identifier 0 known (omega arith) room
 
 -- ---- each field or frame accepted is the one that coding gives, the ACK slot apart
 
@@ -150,9 +178,9 @@ pub field-accepted : (field : List ℕ) (room n : ℕ) → Below 256 field → d
     → (fieldOf (payloadOf field) ≡ field) × (length (payloadOf field) ≡ n) × (n ≤ 7) × Below 256 (payloadOf field)
 field-accepted = field-of-payload
 
-pub line-accepted : (line : List ℕ) (room identifier n : ℕ) → readAnswer line room ≡ Frame identifier n
-    → (withAck 1 line ≡ payloadLine identifier (payloadIn line)) × Below 2 line × (identifier ≤ 2047)
-    × (length (payloadIn line) ≡ n) × (n ≤ 7) × Below 256 (payloadIn line)
+pub line-accepted : (line : List ℕ) (room identifier n : ℕ) → readAnswer own line room ≡ Frame identifier n
+    → (withAck 1 line ≡ payloadLine identifier (payloadIn own line)) × Below 2 line × (identifier ≤ 2047)
+    × (length (payloadIn own line) ≡ n) × (n ≤ 7) × Below 256 (payloadIn own line)
 line-accepted line room identifier n accepted =
-    let coded : Coded line room identifier n = accepted-is-coded line room identifier n accepted in
-    (coded .line-is, coded .line-below, coded .known, coded .length-is, coded .short, coded .bytes)
+    let coded : Coded own line room identifier n = accepted-is-coded own line room identifier n accepted in
+    (coded-apart own line room identifier n coded, coded .line-below, coded .known, coded .length-is, coded .short, coded .bytes)

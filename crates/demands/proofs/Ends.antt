@@ -2,7 +2,8 @@
 -- beside it, the run is `done` with fuel enough, so neither stuck nor endless, with the answer of the contract; what was lent to read then
 -- holds what it held, and what was lent to write what the contract says. It is asked that numbers fit their types and that slices are as
 -- Rattle has them (`Lendable`). The same of every public call, in the words of the toolchain's logic, is in Runs. Assumes nothing.
---     c-encode-ends, c-decode-ends, c-make-frame-ends, c-frame-length-ends, c-frame-bounds-ends, c-read-line-ends
+--     c-encode-ends, c-decode-ends, c-make-frame-ends, c-frame-length-ends, c-frame-bounds-ends, c-read-line-ends,
+--     c-read-own-line-ends
 use mathlib.Core.List.{List, [], _∷_}
 use Prim.Native.Nat.{ℕ, _<_, _^_}
 use lib.ListN.{length}
@@ -16,7 +17,7 @@ use Rattle.field.specs.Field.{fieldOf}
 use Rattle.field.specs.Encode.{encodeAnswer}
 use Rattle.decoding.specs.Decode.{decodeAnswer, payloadOf}
 use Rattle.frame.specs.Answers.{payloadLine, makeAnswer, lengthAnswer, boundsAnswer, boundsNumbers}
-use Rattle.line.specs.Read.{readAnswer, payloadIn, lineNumbers}
+use Rattle.line.specs.Read.{acknowledged, own, readAnswer, payloadIn, lineNumbers}
 use Rattle.prushgoli.specs.Packing.{pack}
 use Rattle.prushgoli.proofs.prushgoli_encode.Symbol as c-encode
 use Rattle.prushgoli.proofs.prushgoli_decode.Symbol as c-decode
@@ -24,10 +25,11 @@ use Rattle.prushgoli.proofs.prushgoli_make_frame.Symbol as c-make-frame
 use Rattle.prushgoli.proofs.prushgoli_frame_length.Symbol as c-frame-length
 use Rattle.prushgoli.proofs.prushgoli_frame_bounds.Symbol as c-frame-bounds
 use Rattle.prushgoli.proofs.prushgoli_read_line.Symbol as c-read-line
+use Rattle.prushgoli.proofs.prushgoli_read_own_line.Symbol as c-read-own-line
 use Rattle.demands.specs.Ends.{Lendable, beside, slice, Ends}
 use Rattle.demands.proofs.Running.{given}
 use Rattle.demands.proofs.Blocks.{ends-alone, ends-reading, ends-writing}
-use Rattle.demands.proofs.Runs.{c-encode-runs, c-decode-runs, c-make-frame-runs, c-frame-length-runs, c-frame-bounds-runs, c-read-line-runs}
+use Rattle.demands.proofs.Runs.{c-encode-runs, c-decode-runs, c-make-frame-runs, c-frame-length-runs, c-frame-bounds-runs, c-read-line-runs, c-read-own-line-runs}
 
 pub c-encode-ends : (σ : Memory) (payload field : List ℕ) → Lendable payload → Lendable field →
     let answer = encodeAnswer payload (length field) in
@@ -65,8 +67,15 @@ c-frame-bounds-ends σ identifier size fits fits′ =
     ends-alone (given (given c-frame-bounds-runs identifier fits) size fits′) tt σ (λ a says. says)
 
 pub c-read-line-ends : (σ : Memory) (line payload : List ℕ) → Lendable line → Lendable payload →
-    let answer = readAnswer line (length payload) in
+    let answer = readAnswer acknowledged line (length payload) in
     let σ₁ = beside σ line in
     Ends c-read-line.routine (slice σ line ∷ slice σ₁ payload ∷ []) (beside σ₁ payload) (vint w64 (pack (lineNumbers answer)))
-    (λ σ′. Holds σ′ (length σ) 0 line × Holds σ′ (length σ₁) 0 (after (lineNumbers answer) (payloadIn line) payload))
+    (λ σ′. Holds σ′ (length σ) 0 line × Holds σ′ (length σ₁) 0 (after (lineNumbers answer) (payloadIn acknowledged line) payload))
 c-read-line-ends σ line payload ok ok′ = ends-writing c-read-line-runs (λ κs i. tt) σ line payload ok ok′ (λ κs γ δ a s says. says)
+
+pub c-read-own-line-ends : (σ : Memory) (line payload : List ℕ) → Lendable line → Lendable payload →
+    let answer = readAnswer own line (length payload) in
+    let σ₁ = beside σ line in
+    Ends c-read-own-line.routine (slice σ line ∷ slice σ₁ payload ∷ []) (beside σ₁ payload) (vint w64 (pack (lineNumbers answer)))
+    (λ σ′. Holds σ′ (length σ) 0 line × Holds σ′ (length σ₁) 0 (after (lineNumbers answer) (payloadIn own line) payload))
+c-read-own-line-ends σ line payload ok ok′ = ends-writing c-read-own-line-runs (λ κs i. tt) σ line payload ok ok′ (λ κs γ δ a s says. says)

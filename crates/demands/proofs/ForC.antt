@@ -1,7 +1,7 @@
 -- Demand 1, at the calls for C: what C reads out of the one number that it is answered are document 01's numbers of the answer, the
 -- refusal's number and its place, or 0 and the length, the bounds, or length and identifier. Each is about an outcome that the contract
 -- allows. Assumes nothing.
---     encode-told, decode-told, make-frame-told, frame-length-told, frame-bounds-told, read-line-told
+--     encode-told, decode-told, make-frame-told, frame-length-told, frame-bounds-told, read-line-told, read-own-line-told
 --     answer-exactly, bounds-exactly, line-exactly    C reads the numbers of an answer exactly when that is the answer: so of each call it
 --                    reads the number and the place of a refusal exactly when Exactly and LineRefusals say
 --     length-told    of an answer that is a length C reads no refusal, and the length
@@ -23,7 +23,7 @@ use Rattle.decoding.specs.Decode.{decodeAnswer}
 use Rattle.frame.specs.Answers.{makeAnswer, lengthAnswer, boundsAnswer, boundsNumbers}
 use Rattle.frame.specs.declared.Bounds.{Bounds}
 use Rattle.frame.proofs.BoundsAnswers.{bounds-only}
-use Rattle.line.specs.Read.{readAnswer, lineNumbers}
+use Rattle.line.specs.Read.{acknowledged, own, readAnswer, lineNumbers}
 use Rattle.line.specs.declared.Line.{Line}
 use Rattle.line.specs.declared.Line.the-variants as line
 use Rattle.line.proofs.ReadAnswers.{line-only}
@@ -36,6 +36,7 @@ use Rattle.prushgoli.proofs.prushgoli_make_frame.Reads as make-frame
 use Rattle.prushgoli.proofs.prushgoli_frame_length.Reads as frame-length
 use Rattle.prushgoli.proofs.prushgoli_frame_bounds.Reads as frame-bounds
 use Rattle.prushgoli.proofs.prushgoli_read_line.Reads as read-line
+use Rattle.prushgoli.proofs.prushgoli_read_own_line.Reads as read-own-line
 
 pub encode-told : (κs : Lfts 2) (i : _) (a : ℕ) (s : _) → encode.Learnt κs i a s
     → told a ≡ answerNumbers (encodeAnswer (now (i .0)) (length (now (i .1 .0))))
@@ -68,10 +69,16 @@ frame-bounds-told κs i a s allowed =
     ap told allowed ∙ told-back (boundsNumbers answer) (bounds-fit _ _ answer refl)
 
 pub read-line-told : (κs : Lfts 2) (i : _) (a : ℕ) (s : _) → read-line.Learnt κs i a s
-    → told a ≡ lineNumbers (readAnswer (now (i .0)) (length (now (i .1 .0))))
+    → told a ≡ lineNumbers (readAnswer acknowledged (now (i .0)) (length (now (i .1 .0))))
 read-line-told κs i a s allowed =
-    let answer = readAnswer (now (i .0)) (length (now (i .1 .0))) in
-    ap told (allowed .0) ∙ told-back (lineNumbers answer) (read-fits _ _ answer refl)
+    let answer = readAnswer acknowledged (now (i .0)) (length (now (i .1 .0))) in
+    ap told (allowed .0) ∙ told-back (lineNumbers answer) (read-fits _ _ _ answer refl)
+
+pub read-own-line-told : (κs : Lfts 2) (i : _) (a : ℕ) (s : _) → read-own-line.Learnt κs i a s
+    → told a ≡ lineNumbers (readAnswer own (now (i .0)) (length (now (i .1 .0))))
+read-own-line-told κs i a s allowed =
+    let answer = readAnswer own (now (i .0)) (length (now (i .1 .0))) in
+    ap told (allowed .0) ∙ told-back (lineNumbers answer) (read-fits _ _ _ answer refl)
 
 pub answer-exactly : {x : Answer} (a : ℕ) → told a ≡ answerNumbers x → (y : Answer) → told a ≡ answerNumbers y ↔ x ≡ y
 answer-exactly a is y = (λ read. answer-only _ y (sym is ∙ read), λ same. is ∙ ap answerNumbers same)

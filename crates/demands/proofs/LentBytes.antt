@@ -1,7 +1,7 @@
 -- Bytes that are lent to a call are bytes: a contract speaks of lists of numbers, and in every call that is made (`Made`) the numbers lent
 -- to read are below 256. Assumes nothing.
 --     bytes-lent       of a `&[u8]` and the token of its lifetime
---     encode-bytes, decode-bytes, make-frame-bytes, frame-length-bytes, read-line-bytes    of the calls for C
+--     encode-bytes, decode-bytes, make-frame-bytes, frame-length-bytes, read-line-bytes, read-own-line-bytes    of the calls for C
 use mathlib.Core.List.{List, [], _∷_}
 use mathlib.Core.HLevel.{Unit-prop, ×-prop}
 use mathlib.Core.Logic.{∥∥₁-elim}
@@ -35,6 +35,7 @@ use Rattle.prushgoli.proofs.prushgoli_decode.Kinds as decode
 use Rattle.prushgoli.proofs.prushgoli_make_frame.Kinds as make-frame
 use Rattle.prushgoli.proofs.prushgoli_frame_length.Kinds as frame-length
 use Rattle.prushgoli.proofs.prushgoli_read_line.Kinds as read-line
+use Rattle.prushgoli.proofs.prushgoli_read_own_line.Kinds as read-own-line
 
 -- ---- the closed model
 
@@ -123,3 +124,6 @@ frame-length-bytes κs i (qs, vs, σ, F, s) = second-bytes 0 κs qs [] (UInt w32
 
 pub read-line-bytes : (κs : Lfts 2) (i : _) → Made read-line.ps read-line.r κs i → Below 256 (now (i .0))
 read-line-bytes κs i (qs, vs, σ, F, s) = first-bytes 1 κs qs (MutSlice (named 1) (κs .1 .0) u8 ∷ []) i vs σ F s
+
+pub read-own-line-bytes : (κs : Lfts 2) (i : _) → Made read-own-line.ps read-own-line.r κs i → Below 256 (now (i .0))
+read-own-line-bytes κs i (qs, vs, σ, F, s) = first-bytes 1 κs qs (MutSlice (named 1) (κs .1 .0) u8 ∷ []) i vs σ F s

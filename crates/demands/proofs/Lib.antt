@@ -9,6 +9,7 @@ pub mod Ends
 pub mod ForC
 pub mod Exactly
 pub mod LineRefusals
+pub mod Acknowledged
 pub mod RecordsExactly
 pub mod ReportExactly
 pub mod Between

@@ -1,8 +1,8 @@
 -- Demand 1, every public call ends with an answer: each meets its contract, whatever the inputs. `statement` is the toolchain's: a call
 -- that is handed what its types say is safe, ends, and leaves what its clauses say. Assumes nothing.
---     c-encode-meets and five more    the calls for C
---     encode-meets and eleven more    document 01's calls in Rattle
---     code-meets and twelve more      the calls between the crates
+--     c-encode-meets and six more     the calls for C
+--     encode-meets and twelve more    the documents' calls in Rattle
+--     code-meets and thirteen more    the calls between the crates
 use Rattle.prushgoli.proofs.prushgoli_encode.Met as c-encode
 use Rattle.prushgoli.proofs.prushgoli_encode.Statement as c-encode-contract
 use Rattle.prushgoli.proofs.prushgoli_decode.Met as c-decode
@@ -15,6 +15,8 @@ use Rattle.prushgoli.proofs.prushgoli_frame_bounds.Met as c-frame-bounds
 use Rattle.prushgoli.proofs.prushgoli_frame_bounds.Statement as c-frame-bounds-contract
 use Rattle.prushgoli.proofs.prushgoli_read_line.Met as c-read-line
 use Rattle.prushgoli.proofs.prushgoli_read_line.Statement as c-read-line-contract
+use Rattle.prushgoli.proofs.prushgoli_read_own_line.Met as c-read-own-line
+use Rattle.prushgoli.proofs.prushgoli_read_own_line.Statement as c-read-own-line-contract
 use Rattle.field.proofs.encode.Met as encode
 use Rattle.field.proofs.encode.Statement as encode-contract
 use Rattle.decoding.proofs.decode.Met as decode
@@ -27,6 +29,8 @@ use Rattle.frame.proofs.frame_bounds.Met as frame-bounds
 use Rattle.frame.proofs.frame_bounds.Statement as frame-bounds-contract
 use Rattle.line.proofs.read_line.Met as read-line
 use Rattle.line.proofs.read_line.Statement as read-line-contract
+use Rattle.line.proofs.read_own_line.Met as read-own-line
+use Rattle.line.proofs.read_own_line.Statement as read-own-line-contract
 use Rattle.records.proofs.record_at.Met as record-at
 use Rattle.records.proofs.record_at.Statement as record-at-contract
 use Rattle.report.proofs.line_at.Met as line-at
@@ -51,6 +55,8 @@ use Rattle.crc.proofs.of_frame.Met as of-frame
 use Rattle.crc.proofs.of_frame.Statement as of-frame-contract
 use Rattle.scanning.proofs.scan.Met as scan
 use Rattle.scanning.proofs.scan.Statement as scan-contract
+use Rattle.line.proofs.read.Met as read
+use Rattle.line.proofs.read.Statement as read-contract
 use Rattle.words.proofs.word_in.Met as word-in
 use Rattle.words.proofs.word_in.Statement as word-in-contract
 use Rattle.words.proofs.entry_in.Met as entry-in
@@ -86,7 +92,10 @@ c-frame-bounds-meets = c-frame-bounds.met
 pub c-read-line-meets : {M : Type 1} → c-read-line-contract.statement M
 c-read-line-meets = c-read-line.met
 
--- ---- document 01's calls in Rattle
+pub c-read-own-line-meets : {M : Type 1} → c-read-own-line-contract.statement M
+c-read-own-line-meets = c-read-own-line.met
+
+-- ---- the documents' calls in Rattle
 
 pub encode-meets : {M : Type 1} → encode-contract.statement M
 encode-meets = encode.met
@@ -105,6 +114,9 @@ frame-bounds-meets = frame-bounds.met
 
 pub read-line-meets : {M : Type 1} → read-line-contract.statement M
 read-line-meets = read-line.met
+
+pub read-own-line-meets : {M : Type 1} → read-own-line-contract.statement M
+read-own-line-meets = read-own-line.met
 
 pub record-at-meets : {M : Type 1} → record-at-contract.statement M
 record-at-meets = record-at.met
@@ -143,6 +155,9 @@ of-frame-meets = of-frame.met
 
 pub scan-meets : {M : Type 1} → scan-contract.statement M
 scan-meets = scan.met
+
+pub read-meets : {M : Type 1} → read-contract.statement M
+read-meets = read.met
 
 pub word-in-meets : {M : Type 1} → word-in-contract.statement M
 word-in-meets = word-in.met

@@ -1,9 +1,9 @@
 -- Demand 1, every public call ends: the machine's run of each. From every memory that has what the call's types own, beside anything else,
 -- the run is `done` with fuel enough, with an answer that its contract allows, and what stood beside is as it was. `Runs` says this in the
 -- words of the toolchain's logic; of the calls for C, Ends says it without them. `Asked` and `Learnt` are as in Demand1. Assumes nothing.
---     c-encode-runs and five more       the calls for C
---     encode-runs and eleven more       the other calls of document 01
---     code-runs and twelve more         the calls that one crate has for another
+--     c-encode-runs and six more        the calls for C
+--     encode-runs and twelve more       the other calls of the documents
+--     code-runs and thirteen more       the calls that one crate has for another
 use ghost.Model.{𝓤, H, model}
 use contract.BorrowModel.{ghost₀}
 use contract.Running.{real}
@@ -14,12 +14,14 @@ use Rattle.prushgoli.proofs.prushgoli_make_frame as c-make-frame
 use Rattle.prushgoli.proofs.prushgoli_frame_length as c-frame-length
 use Rattle.prushgoli.proofs.prushgoli_frame_bounds as c-frame-bounds
 use Rattle.prushgoli.proofs.prushgoli_read_line as c-read-line
+use Rattle.prushgoli.proofs.prushgoli_read_own_line as c-read-own-line
 use Rattle.field.proofs.encode as encode
 use Rattle.decoding.proofs.decode as decode
 use Rattle.frame.proofs.make_frame as make-frame
 use Rattle.frame.proofs.frame_length as frame-length
 use Rattle.frame.proofs.frame_bounds as frame-bounds
 use Rattle.line.proofs.read_line as read-line
+use Rattle.line.proofs.read_own_line as read-own-line
 use Rattle.records.proofs.record_at as record-at
 use Rattle.report.proofs.line_at as line-at
 use Rattle.words.proofs.word as word
@@ -30,6 +32,7 @@ use Rattle.field.proofs.encoding.code as code
 use Rattle.decoding.proofs.decode_number as decode-number
 use Rattle.crc.proofs.of_frame as of-frame
 use Rattle.scanning.proofs.scan as scan
+use Rattle.line.proofs.read as read
 use Rattle.field.proofs.table.row_of as row-of
 use Rattle.field.proofs.padding.number_of as padding-number
 use Rattle.bits.proofs.bytes.load as load
@@ -62,6 +65,9 @@ c-frame-bounds-runs = runs (c-frame-bounds.Reads.known w₀) (c-frame-bounds.Met
 pub c-read-line-runs : Runs c-read-line.Kinds.ps c-read-line.Kinds.r c-read-line.Reads.Asked c-read-line.Reads.Learnt c-read-line.Symbol.routine
 c-read-line-runs = runs (c-read-line.Reads.known w₀) (c-read-line.Met.met 𝓤 H model ghost₀ (real 𝓤 H model))
 
+pub c-read-own-line-runs : Runs c-read-own-line.Kinds.ps c-read-own-line.Kinds.r c-read-own-line.Reads.Asked c-read-own-line.Reads.Learnt c-read-own-line.Symbol.routine
+c-read-own-line-runs = runs (c-read-own-line.Reads.known w₀) (c-read-own-line.Met.met 𝓤 H model ghost₀ (real 𝓤 H model))
+
 -- ---- the other calls of document 01
 
 pub encode-runs : Runs encode.Kinds.ps encode.Kinds.r encode.Reads.Asked encode.Reads.Learnt encode.Symbol.routine
@@ -81,6 +87,9 @@ frame-bounds-runs = runs (frame-bounds.Reads.known w₀) (frame-bounds.Met.met �
 
 pub read-line-runs : Runs read-line.Kinds.ps read-line.Kinds.r read-line.Reads.Asked read-line.Reads.Learnt read-line.Symbol.routine
 read-line-runs = runs (read-line.Reads.known w₀) (read-line.Met.met 𝓤 H model ghost₀ (real 𝓤 H model))
+
+pub read-own-line-runs : Runs read-own-line.Kinds.ps read-own-line.Kinds.r read-own-line.Reads.Asked read-own-line.Reads.Learnt read-own-line.Symbol.routine
+read-own-line-runs = runs (read-own-line.Reads.known w₀) (read-own-line.Met.met 𝓤 H model ghost₀ (real 𝓤 H model))
 
 pub record-at-runs : Runs record-at.Kinds.ps record-at.Kinds.r record-at.Reads.Asked record-at.Reads.Learnt record-at.Symbol.routine
 record-at-runs = runs (record-at.Reads.known w₀) (record-at.Met.met 𝓤 H model ghost₀ (real 𝓤 H model))
@@ -113,6 +122,9 @@ of-frame-runs = runs (of-frame.Reads.known w₀) (of-frame.Met.met 𝓤 H model 
 
 pub scan-runs : Runs scan.Kinds.ps scan.Kinds.r scan.Reads.Asked scan.Reads.Learnt scan.Symbol.routine
 scan-runs = runs (scan.Reads.known w₀) (scan.Met.met 𝓤 H model ghost₀ (real 𝓤 H model))
+
+pub read-runs : Runs read.Kinds.ps read.Kinds.r read.Reads.Asked read.Reads.Learnt read.Symbol.routine
+read-runs = runs (read.Reads.known w₀) (read.Met.met 𝓤 H model ghost₀ (real 𝓤 H model))
 
 pub row-of-runs : Runs row-of.Kinds.ps row-of.Kinds.r row-of.Reads.Asked row-of.Reads.Learnt row-of.Symbol.routine
 row-of-runs = runs (row-of.Reads.known w₀) (row-of.Met.met 𝓤 H model ghost₀ (real 𝓤 H model))

@@ -2,14 +2,15 @@
 --     line-ack    the line with a bit set there
 --     line-own    it has a 1 there of its own
 --     ack-again   and has it again, whatever bit was set there before
+--     ack-holds   the bit that was set there stands there
 --     ack-found   a line of bits that is this one but for the ACK slot is this one with some bit set there
 use mathlib.Core.Path.{_≡_, sym, ap, ap₂, _∙_}
 use mathlib.Core.List.{List, [], _∷_, _++_, append-assoc}
-use Prim.Native.Nat.{ℕ, zero, suc, _-_, _<_}
+use Prim.Native.Nat.{ℕ, zero, suc, _+_, _-_, _<_}
 use native.Mathlib.Omega.{arith}
 use lib.Dec.{lit<}
 use lib.ListN.{length, getD, set, replicate, length-append, length-set}
-use lib.Seq.{set-at, set-getD, set-set}
+use lib.Seq.{set-at, set-getD, set-set, getD-append-add}
 use Rattle.bits.specs.Below.{Below}
 use Rattle.bits.specs.Stuffing.{nothingSent, stuffed}
 use Rattle.frame.specs.Line.{stuffedRow, ending, lineOf}
@@ -40,6 +41,15 @@ module _ (headerBits dataBits : List ℕ) where
   pub ack-again : (ack : ℕ) → withAck 1 (withAck ack (lineOf headerBits dataBits)) ≡ lineOf headerBits dataBits
   unfolding lineOf
   ack-again ack = ap (withAck 1) (line-ack ack) ∙ with-ack 1 ack stuffedBits
+
+  pub ack-holds : (ack : ℕ) →
+      let line = withAck ack (lineOf headerBits dataBits) in
+      getD line (length line - 9) 0 ≡ ack
+  ack-holds ack =
+      let line = stuffedBits ++ ending ack in
+      let at : length line - 9 ≡ length stuffedBits + 1 = omega (arith, length-append stuffedBits (ending ack)) in
+      ap (λ (l : List ℕ). getD l (length l - 9) 0) (line-ack ack)
+      ∙ ap (λ (k : ℕ). getD line k 0) at ∙ getD-append-add stuffedBits (ending ack) 1 0
 
 bit-at : (l : List ℕ) (i : ℕ) → Below 2 l → getD l i 0 < 2
 bit-at [] i below = lit< tt

@@ -1,5 +1,5 @@
 -- Lines read by hand, as one statement over one list. Assumes nothing.
---     lines-right    what reading each of them answers, in the document's numbers
+--     lines-right    what reading each of them answers, as our own and from a live bus, in the document's numbers
 use mathlib.Core.Path.{_≡_, refl}
 use mathlib.Core.List.{List, [], _∷_, _++_, map}
 use Prim.Native.Nat.{ℕ}
@@ -16,7 +16,7 @@ use Rattle.decoding.specs.Decode.{decodeAnswer}
 use Rattle.crc.specs.Crc.{xor, divide, remainder, crc}
 use Rattle.scanning.specs.Form.{form}
 use Rattle.scanning.specs.Scan.{identifierIn, dlcIn, crcStart, complete, stuffDue, mustBe, shown, verdict, runWith, frameWith, scan, scanned}
-use Rattle.line.specs.Read.{fieldIn, readAnswer, lineNumbers}
+use Rattle.line.specs.Read.{acknowledged, own, fieldIn, readAnswer, lineNumbers}
 
 -- the frame of identifier 0 and the empty payload: 19 + 15 bits 0, six times five of them with a stuff bit; the last is at place 39
 abbrev pub empty : List ℕ
@@ -38,54 +38,70 @@ begins identifier = 0 ∷ bits 11 identifier
 abbrev pub header555 : ℕ → List ℕ
 header555 dlc = begins 0x555 ++ (bits 6 1 ++ bits 2 dlc)
 
--- a line, and its answer where there is room for seven bytes: length and identifier, or a refusal's number at its place
-abbrev pub cases : List (List ℕ × Numbers)
+-- a line, and its answers where there is room for seven bytes, read as our own and from a live bus: length and identifier, or a refusal's
+-- number at its place
+abbrev Case : Type 0
+Case = List ℕ × Numbers × Numbers
+
+abbrev alike : List ℕ → Numbers → Case
+alike line numbers = (line, numbers, numbers)
+
+abbrev pub cases : List Case
 cases =
-    (empty, given 0 0)
-    ∷ (set empty 41 0, given 0 0)  -- the ACK slot
+    -- the ACK slot: 1, 0, and a byte that is no bit
+    (empty, given 0 0, 20 at 41)
+    ∷ alike (set empty 41 0) (given 0 0)
+    ∷ alike (set empty 41 2) (9 at 41)
     -- F0; a data field of bits 0 only, with three stuff bits, whose break bit is wrong; an escape in the place of the second word
-    ∷ (header555 2 ++ (bits 16 0xEA55 ++ (bits 16 0b0101111101001011 ++ replicate 10 1)), given 1 0x555)
-    ∷ (header555 2 ++ (bits 19 0b0000100000100000100 ++ (bits 16 0b0010000010100100 ++ replicate 10 1)), 4 at 0)
-    ∷ (header555 3 ++ (bits 24 0x6A484A ++ (bits 16 0b0111110111001000 ++ replicate 10 1)), 5 at 1)
-    -- the line ends before a bit, and before a stuff bit; it goes on
-    ∷ ([], 11 at 0)
-    ∷ (replicate 5 0, 11 at 5)
-    ∷ (empty ++ (7 ∷ []), 11 at 50)
+    ∷ (header555 2 ++ (bits 16 0xEA55 ++ (bits 16 0b0101111101001011 ++ replicate 10 1)), given 1 0x555, 20 at 53)
+    ∷ (header555 2 ++ (bits 19 0b0000100000100000100 ++ (bits 16 0b0010000010100100 ++ replicate 10 1)), 4 at 0, 20 at 56)
+    ∷ (header555 3 ++ (bits 24 0x6A484A ++ (bits 16 0b0111110111001000 ++ replicate 10 1)), 5 at 1, 20 at 61)
+    ∷ alike (header555 3 ++ (bits 24 0x6A484A ++ (bits 16 0b0111110111001000 ++ (1 ∷ 0 ∷ replicate 8 1)))) (5 at 1)
+    -- the line ends before a bit, before a stuff bit, and before the ACK slot; it goes on
+    ∷ alike [] (11 at 0)
+    ∷ alike (replicate 5 0) (11 at 5)
+    ∷ alike (take 41 empty) (11 at 41)
+    ∷ (empty ++ (7 ∷ []), 11 at 50, 20 at 41)
     -- 9 comes before 13, and before 10
-    ∷ (2 ∷ [], 9 at 0)
-    ∷ (set empty 5 2, 9 at 5)
+    ∷ alike (2 ∷ []) (9 at 0)
+    ∷ alike (set empty 5 2) (9 at 5)
     -- a sixth equal bit; one behind IDE; one that RTR may not be either: 10 comes before 13
-    ∷ (set empty 5 0, 10 at 5)
-    ∷ (begins 0b10101011000 ++ (0 ∷ 0 ∷ 0 ∷ []), 10 at 14)
-    ∷ (begins 0b10101011111 ++ (1 ∷ []), 10 at 12)
-    -- start of frame, RTR, IDE, the reserved bit, CRC delimiter, ACK delimiter, the last end bit
-    ∷ (1 ∷ [], 13 at 0)
-    ∷ (begins 0x555 ++ (1 ∷ []), 13 at 12)
-    ∷ (begins 0x555 ++ (0 ∷ 1 ∷ []), 13 at 13)
-    ∷ (begins 0x555 ++ (0 ∷ 0 ∷ 1 ∷ []), 13 at 14)
-    ∷ (set empty 40 0, 13 at 40)
-    ∷ (set empty 42 0, 13 at 42)
-    ∷ (set empty 49 0, 13 at 49)
+    ∷ alike (set empty 5 0) (10 at 5)
+    ∷ alike (begins 0b10101011000 ++ (0 ∷ 0 ∷ 0 ∷ [])) (10 at 14)
+    ∷ alike (begins 0b10101011111 ++ (1 ∷ [])) (10 at 12)
+    -- start of frame, RTR, IDE, the reserved bit, CRC delimiter, ACK delimiter behind a 1 and behind a 0, the last end bit
+    ∷ alike (1 ∷ []) (13 at 0)
+    ∷ alike (begins 0x555 ++ (1 ∷ [])) (13 at 12)
+    ∷ alike (begins 0x555 ++ (0 ∷ 1 ∷ [])) (13 at 13)
+    ∷ alike (begins 0x555 ++ (0 ∷ 0 ∷ 1 ∷ [])) (13 at 14)
+    ∷ alike (set empty 40 0) (13 at 40)
+    ∷ (set empty 42 0, 13 at 42, 20 at 41)
+    ∷ alike (set (set empty 41 0) 42 0) (13 at 42)
+    ∷ (set empty 49 0, 13 at 49, 20 at 41)
     -- a CRC bit, and the last one
-    ∷ (set empty 36 1, 12 at 39)
-    ∷ (set empty 39 1, 12 at 39)
+    ∷ alike (set empty 36 1) (12 at 39)
+    ∷ alike (set empty 39 1) (12 at 39)
     -- the stuff bit behind the last CRC bit; lines without it, in which the CRC delimiter is taken for it
-    ∷ (ending1s, given 1 0)
-    ∷ (ending0s, given 1 0)
-    ∷ (take 54 ending1s ++ replicate 10 1, 10 at 54)
-    ∷ (take 54 ending0s ++ replicate 10 1, 11 at 64)
+    ∷ (ending1s, given 1 0, 20 at 56)
+    ∷ (ending0s, given 1 0, 20 at 56)
+    ∷ alike (take 54 ending1s ++ replicate 10 1) (10 at 54)
+    ∷ (take 54 ending0s ++ replicate 10 1, 11 at 64, 20 at 56)
     -- the line ends before it, and behind it; a byte that is no bit; the CRC delimiter behind it
-    ∷ (take 54 ending1s, 11 at 54)
-    ∷ (take 55 ending1s, 11 at 55)
-    ∷ (set ending1s 54 2, 9 at 54)
-    ∷ (set ending1s 55 0, 13 at 55)
+    ∷ alike (take 54 ending1s) (11 at 54)
+    ∷ alike (take 55 ending1s) (11 at 55)
+    ∷ alike (set ending1s 54 2) (9 at 54)
+    ∷ alike (set ending1s 55 0) (13 at 55)
     -- a wrong CRC comes before it
-    ∷ (set (set ending1s 39 1) 54 1, 12 at 53)
+    ∷ alike (set (set ending1s 39 1) 54 1) (12 at 53)
     -- DLC 1; DLC 15 and a sixth 1 behind it
-    ∷ (unpacked 6 (replicate 3 1) ++ bits 4 1, 3 at 21)
-    ∷ (begins 0b10101010100 ++ (0 ∷ 0 ∷ 0 ∷ 1 ∷ bits 5 31), 3 at 19)
+    ∷ alike (unpacked 6 (replicate 3 1) ++ bits 4 1) (3 at 21)
+    ∷ alike (begins 0b10101010100 ++ (0 ∷ 0 ∷ 0 ∷ 1 ∷ bits 5 31)) (3 at 19)
     ∷ []
 
-pub lines-right : map (λ (c : List ℕ × Numbers). lineNumbers (readAnswer (c .0) 7)) cases ≡ map (λ (c : List ℕ × Numbers). c .1) cases
+-- what reading a line answers
+abbrev answers : List ℕ → Numbers × Numbers
+answers line = (lineNumbers (readAnswer own line 7), lineNumbers (readAnswer acknowledged line 7))
+
+pub lines-right : map (λ (c : Case). answers (c .0)) cases ≡ map (λ (c : Case). (c .1, c .2)) cases
 unfolding bits number unpacked packed equalNeighbours words placeIn symbolOf padding breakPart wordsPart paddingPart decodeAnswer xor divide remainder crc form dlcIn crcStart complete stuffDue mustBe shown verdict runWith frameWith scan scanned identifierIn fieldIn readAnswer
 lines-right = refl

@@ -1,7 +1,8 @@
 -- The bits of a frame: of an identifier, the bytes of a data field and a bit in the ACK slot. Assumes nothing.
 --     frameBits      these bits, in the order they are sent, without stuff bits
 --     front-length, frame-start    the CRC stands behind header and data bits
---     frame-right    they are right
+--     frame-slot     the bit in the ACK slot
+--     frame-right    they are right, for a reading that takes that bit
 --     identifier-back, field-back    identifier and data field are found in them again
 use mathlib.Core.Path.{_≡_, refl, sym, ap, ap₂, _∙_}
 use mathlib.Core.List.{List, [], _∷_, _++_, append-assoc}
@@ -9,8 +10,8 @@ use Prim.Native.Nat.{ℕ, _+_, _*_, _≤_, _<_}
 use native.Mathlib.Nat.{mod-eq-of-lt}
 use native.Mathlib.Omega.{arith}
 use lib.Dec.{lit<}
-use lib.ListN.{length, take, drop, replicate, length-append, length-replicate}
-use lib.Seq.{take-at, drop-at}
+use lib.ListN.{length, getD, take, drop, replicate, length-append, length-replicate}
+use lib.Seq.{take-at, drop-at, getD-append-add}
 use Rattle.bits.specs.Below.{Below}
 use Rattle.bits.specs.Rows.{bits, number}
 use Rattle.bits.specs.Packing.{unpacked, packed}
@@ -24,8 +25,10 @@ use Rattle.frame.specs.Line.{crcBits, ending}
 use Rattle.frame.proofs.HeaderBits.{header-length, header-below, dlc-in-place}
 use Rattle.frame.proofs.LineParts.{crc-length}
 use Rattle.scanning.specs.Form.{either, free, form}
-use Rattle.scanning.specs.Scan.{identifierIn, dlcIn, crcStart}
+use Rattle.scanning.specs.Scan.{identifierIn, dlcIn, crcStart, slotMost}
+use Rattle.scanning.specs.declared.Reading.{Reading}
 use Rattle.scanning.proofs.Partial.{headerForm, dataForm, crcForm, form-is, dlc-there, dlc-stays}
+use Rattle.scanning.proofs.Rows.{slot-bit}
 use Rattle.line.specs.Read.{fieldIn}
 use Rattle.line.proofs.Fits.{Fits, fits-append, fits-free, fits-same}
 use Rattle.line.proofs.Right.{Right}
@@ -113,16 +116,30 @@ module _ (identifier : ℕ) (field : List ℕ) where
       ∙ number-low 15 (crc front) ∙ mod-eq-of-lt (crc-below front)
       ∙ sym (ap crc (ap₂ take start (parts ack) ∙ take-at front behind (length front) refl))
 
-  pub frame-right : (ack : ℕ) → length field ≤ 8 → (length field ≡ 1 → ⊥) → ack < 2 → Right (frameBits ack)
-  frame-right ack few not-one h =
+  -- the bit in the ACK slot
+  pub frame-slot : (ack : ℕ) → length field ≤ 8 → getD (frameBits ack) (crcStart (frameBits ack) + 16) 0 ≡ ack
+  frame-slot ack few =
+      let front = headerBits ++ dataBits in
+      let joined : (front ++ (checkBits ++ (1 ∷ []))) ++ (ack ∷ replicate 8 1) ≡ frameBits ack
+      = append-assoc front (checkBits ++ (1 ∷ [])) (ack ∷ replicate 8 1)
+      ∙ ap (front ++_) (append-assoc checkBits (1 ∷ []) (ack ∷ replicate 8 1)) ∙ sym (parts ack) in
+      let long : length (front ++ (checkBits ++ (1 ∷ []))) + 0 ≡ crcStart (frameBits ack) + 16
+      = simp length-append (omega (arith, frame-start ack few, length-append headerBits dataBits, crc-length headerBits dataBits)) in
+      ap₂ (λ (l : List ℕ) (k : ℕ). getD l k 0) (sym joined) (sym long)
+      ∙ getD-append-add (front ++ (checkBits ++ (1 ∷ []))) (ack ∷ replicate 8 1) 0 0
+
+  pub frame-right : (reading : Reading) (ack : ℕ) → length field ≤ 8 → (length field ≡ 1 → ⊥) → ack ≤ slotMost (reading .slot)
+      → Right reading (frameBits ack)
+  frame-right reading ack few not-one h =
       let dlc = frame-dlc ack few in
       record {
-        below = frame-below ack h;
+        below = frame-below ack (omega (arith, slot-bit (reading .slot)));
         long = frame-long ack few;
         fits = rw dlc (frame-fits ack);
         not-one = λ e. not-one (sym dlc ∙ e);
         at-most = omega arith;
         check = frame-check ack few;
+        slot = omega (arith, frame-slot ack few);
       }
 
   -- ---- what is found in them

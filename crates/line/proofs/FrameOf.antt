@@ -1,5 +1,5 @@
 -- Bits that are right are those of a frame. Assumes nothing.
---     right-frame     of the identifier and the data field that are found in them, and of some bit in the ACK slot
+--     right-frame     of the identifier and the data field that are found in them, and of a bit in the ACK slot that may stand there
 --     identifier-few, field-bytes, bytes-below    which are an identifier, and as many bytes as the DLC says
 --     field-there, data-fits    the bytes whose bits, as one number, are the data bits; it has no bits more
 use mathlib.Core.Path.{_≡_, sym, ap, ap₂, _∙_}
@@ -7,7 +7,7 @@ use mathlib.Core.List.{List, [], _∷_, _++_, append-assoc}
 use Prim.Native.Nat.{ℕ, _+_, _*_, _%_, _^_, _≤_, _<_}
 use native.Mathlib.Omega.{arith}
 use lib.Dec.{lit<}
-use lib.ListN.{length, take, drop, replicate, length-append, length-drop, length-replicate, take-append-drop}
+use lib.ListN.{length, getD, take, drop, replicate, length-append, length-drop, length-replicate, take-append-drop}
 use lib.Seq.{take-all, take-at, drop-at, drop-drop, length-take-le}
 use borrow.Author.Tests.{eqb-true}
 use Rattle.bits.specs.Below.{Below}
@@ -22,23 +22,24 @@ use Rattle.crc.specs.Crc.{crc}
 use Rattle.frame.specs.Header.{header}
 use Rattle.frame.specs.Line.{crcBits, ending}
 use Rattle.scanning.specs.Form.{either, form}
-use Rattle.scanning.specs.Scan.{identifierIn, dlcIn, crcStart}
+use Rattle.scanning.specs.Scan.{identifierIn, dlcIn, crcStart, slotMost}
+use Rattle.scanning.specs.declared.Reading.{Reading}
 use Rattle.scanning.specs.Held.{dataIn}
 use Rattle.scanning.proofs.Partial.{headerForm, dataForm, crcForm, form-is, dlc-there}
 use Rattle.line.specs.Read.{fieldIn}
 use Rattle.line.proofs.Fits.{Fits, fits-drop, fits-fixed}
 use Rattle.line.proofs.Right.{Right}
-use Rattle.line.proofs.FrameBits.{headerBits, dataBits, frameBits, front-length}
+use Rattle.line.proofs.FrameBits.{headerBits, dataBits, frameBits, front-length, frame-slot}
 
-ending-only : (l : List ℕ) → length l ≡ 10 → Below 2 l → Fits (ending either) l → (ack : ℕ) × (ack < 2) × (l ≡ ending ack)
+ending-only : (l : List ℕ) → length l ≡ 10 → Below 2 l → Fits (ending either) l → (ack : ℕ) × (l ≡ ending ack)
 ending-only [] e below fits = absurd (omega arith)
 ending-only (a ∷ []) e below fits = absurd (omega arith)
 ending-only (a ∷ b ∷ l) e below fits =
     let one : a ≡ 1 = sym (eqb-true 1 a (fits .0)) in
     let ones = fits-fixed 8 1 [] l (lit< tt) (below .1 .1) (omega arith) (fits .1 .1) in
-    (b, below .1 .0, ap₂ (λ (x : ℕ) (m : List ℕ). x ∷ b ∷ m) one (sym (take-all 8 l (omega arith)) ∙ ones))
+    (b, ap₂ (λ (x : ℕ) (m : List ℕ). x ∷ b ∷ m) one (sym (take-all 8 l (omega arith)) ∙ ones))
 
-module _ (frame : List ℕ) (right : Right frame) where
+module _ (reading : Reading) (frame : List ℕ) (right : Right reading frame) where
   -- ---- some bits from a position on
 
   long : length frame ≡ 44 + 8 * dlcIn frame
@@ -153,10 +154,13 @@ module _ (frame : List ℕ) (right : Right frame) where
       let size : length before ≡ crcStart frame + 15 = simp (length-append, length-replicate) (omega arith) in
       ap (drop (crcStart frame + 15)) joined ∙ drop-at before (ending either) (crcStart frame + 15) size
 
-  pub right-frame : (ack : ℕ) × (ack < 2) × (frame ≡ frameBits (identifierIn frame) (fieldIn frame) ack)
+  pub right-frame : (ack : ℕ) × (ack ≤ slotMost (reading .slot)) × (frame ≡ frameBits (identifierIn frame) (fieldIn frame) ack)
   unfolding frameBits
   right-frame =
       let k = crcStart frame + 15 in
       let size : length (drop k frame) ≡ 10 = length-drop k frame ∙ omega (arith, right .long) in
       let last = ending-only (drop k frame) size (below-from k) (fits-from k (ending either) ending-form) in
-      (last .0, last .1, front-part ∙ ap (λ (l : List ℕ). H ++ (D ++ l)) (crc-part ∙ ap (crcBits H D ++_) (last .2)))
+      let is = front-part ∙ ap (λ (l : List ℕ). H ++ (D ++ l)) (crc-part ∙ ap (crcBits H D ++_) (last .1)) in
+      let few : length (fieldIn frame) ≤ 8 = omega (arith, field-bytes, right .at-most) in
+      let slot = ap (λ (l : List ℕ). getD l (crcStart l + 16) 0) is ∙ frame-slot (identifierIn frame) (fieldIn frame) (last .0) few in
+      (last .0, omega (arith, slot, right .slot), is)

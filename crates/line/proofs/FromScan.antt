@@ -13,35 +13,36 @@ use Rattle.decoding.proofs.NumberAnswers.{number-fits}
 use Rattle.scanning.specs.Scan.{identifierIn, dlcIn, Scanned, whole, stopped, scanned}
 use Rattle.scanning.specs.Held.{dataIn, heldIn}
 use Rattle.scanning.specs.declared.Held.the-variants as held
+use Rattle.scanning.specs.declared.Reading.{Reading}
 use Rattle.line.specs.Read.{fieldIn, withIdentifier, readAnswer, payloadIn}
 use Rattle.line.specs.declared.Line.the-variants.{Refused}
 use Rattle.line.proofs.ReadAnswers.{read-stopped, read-whole, payload-whole}
 use Rattle.line.proofs.FrameOf.{field-there, data-fits}
 use Rattle.line.proofs.RoundTrip.{line-scanned}
 
-module _ (line : List ℕ) where
-  pub from-held : (identifier n v room : ℕ) → heldIn (scanned line) ≡ held.Frame identifier n v
-      → (withIdentifier identifier (numberAnswer n v room) ≡ readAnswer line room) × (payloadOf (fieldFrom n v) ≡ payloadIn line)
-  from-held identifier n v room e = go (scanned line) refl e
+module _ (reading : Reading) (line : List ℕ) where
+  pub from-held : (identifier n v room : ℕ) → heldIn (scanned reading line) ≡ held.Frame identifier n v
+      → (withIdentifier identifier (numberAnswer n v room) ≡ readAnswer reading line room) × (payloadOf (fieldFrom n v) ≡ payloadIn reading line)
+  from-held identifier n v room e = go (scanned reading line) refl e
     where
-      go : (s : Scanned) → scanned line ≡ s → heldIn s ≡ held.Frame identifier n v
-          → (withIdentifier identifier (numberAnswer n v room) ≡ readAnswer line room) × (payloadOf (fieldFrom n v) ≡ payloadIn line)
+      go : (s : Scanned) → scanned reading line ≡ s → heldIn s ≡ held.Frame identifier n v
+          → (withIdentifier identifier (numberAnswer n v room) ≡ readAnswer reading line room) × (payloadOf (fieldFrom n v) ≡ payloadIn reading line)
       go (stopped refusal) p q = let z : _≡_ {A = ℕ} 0 1 = cc in absurd (omega arith)
       go (whole frame) p q =
           let same : identifier ≡ identifierIn frame = cc in
           let bytes : n ≡ dlcIn frame = cc in
           let data-bits : v ≡ dataIn frame = cc in
-          let right = line-scanned line frame p .0 in
-          let field : fieldFrom n v ≡ fieldIn frame = ap₂ fieldFrom bytes data-bits ∙ field-there frame right in
-          let fits : v < 2 ^ (8 * n) = rw (bytes, data-bits) (data-fits frame right) in (
+          let right = line-scanned reading line frame p .0 in
+          let field : fieldFrom n v ≡ fieldIn frame = ap₂ fieldFrom bytes data-bits ∙ field-there reading frame right in
+          let fits : v < 2 ^ (8 * n) = rw (bytes, data-bits) (data-fits reading frame right) in (
             ap (withIdentifier identifier) (number-fits n v room fits)
-                ∙ ap₂ (λ (i : ℕ) (l : List ℕ). withIdentifier i (decodeAnswer l room)) same field ∙ sym (read-whole line frame room p),
-            ap payloadOf field ∙ sym (payload-whole line frame p),
+                ∙ ap₂ (λ (i : ℕ) (l : List ℕ). withIdentifier i (decodeAnswer l room)) same field ∙ sym (read-whole reading line frame room p),
+            ap payloadOf field ∙ sym (payload-whole reading line frame p),
           )
 
-  pub from-refused : (room : ℕ) (refusal : Refusal) → heldIn (scanned line) ≡ held.Refused refusal → readAnswer line room ≡ Refused refusal
-  from-refused room refusal e = go (scanned line) refl e
+  pub from-refused : (room : ℕ) (refusal : Refusal) → heldIn (scanned reading line) ≡ held.Refused refusal → readAnswer reading line room ≡ Refused refusal
+  from-refused room refusal e = go (scanned reading line) refl e
     where
-      go : (s : Scanned) → scanned line ≡ s → heldIn s ≡ held.Refused refusal → readAnswer line room ≡ Refused refusal
-      go (stopped r) p q = read-stopped line room r p ∙ ap Refused cc
+      go : (s : Scanned) → scanned reading line ≡ s → heldIn s ≡ held.Refused refusal → readAnswer reading line room ≡ Refused refusal
+      go (stopped r) p q = read-stopped reading line room r p ∙ ap Refused cc
       go (whole frame) p q = let z : _≡_ {A = ℕ} 0 1 = cc in absurd (omega arith)

@@ -12,5 +12,6 @@ pub mod FrameOf
 pub mod RoundTrip
 pub mod FromScan
 pub mod ReadRefusals
+pub mod TwoReadings
 pub mod Examples
 pub mod Small

@@ -1,4 +1,4 @@
--- A scanned line, taken apart into a frame's bits and the stuff bits between them. Assumes nothing.
+-- A scanned reading line, taken apart into a frame's bits and the stuff bits between them. Assumes nothing.
 --     dueBits, dueRun    the stuff bit that is due before the next bit of the frame, if any, and the run with it
 --     onLine         what the line holds for the bits that a frame goes on with, where no stuff bit is due before the first
 --     lineFrom       the same with the one that may be due
@@ -18,6 +18,7 @@ use Rattle.bits.specs.Below.{Below}
 use Rattle.refusals.specs.declared.Refusal.the-variants.{LineLength}
 use Rattle.scanning.specs.Scan.{complete, stuffDue, right, verdict, runWith, frameWith}
 use Rattle.scanning.specs.Scan.{whole, stopped, scan}
+use Rattle.scanning.specs.declared.Reading.{Reading}
 use Rattle.line.proofs.FirstProblem.{went-on}
 use Rattle.line.proofs.Sound.{Next, Sound, bit-right, right-bit, stuff-right, due-no-more, right-stuff}
 
@@ -62,41 +63,41 @@ module _ (run : Run) (frame : List ℕ) where
 
   -- ---- there
 
-  scan-due : (place : ℕ) (rest : List ℕ)
-      → scan run frame place (dueBits run frame ++ rest) ≡ scan (dueRun run frame) frame (place + length (dueBits run frame)) rest
+  scan-due : (reading : Reading) (place : ℕ) (rest : List ℕ)
+      → scan reading run frame place (dueBits run frame ++ rest) ≡ scan reading (dueRun run frame) frame (place + length (dueBits run frame)) rest
   unfolding dueBits dueRun scan frameWith
-  scan-due place rest = go (stuffDue run frame) refl
+  scan-due reading place rest = go (stuffDue run frame) refl
     where
-      go : (t : Bool) → stuffDue run frame ≡ t → scan run frame place (cond t ((1 - run .bit) ∷ []) [] ++ rest)
-          ≡ scan (cond t (runWith run (1 - run .bit)) run) frame (place + length (cond t ((1 - run .bit) ∷ []) [])) rest
-      go true e = simp (right-stuff run frame place e, e)
+      go : (t : Bool) → stuffDue run frame ≡ t → scan reading run frame place (cond t ((1 - run .bit) ∷ []) [] ++ rest)
+          ≡ scan reading (cond t (runWith run (1 - run .bit)) run) frame (place + length (cond t ((1 - run .bit) ∷ []) [])) rest
+      go true e = simp (right-stuff run frame reading place e, e)
       go false e = rw (add-zero place)
 
-pub sound-whole : (run : Run) (frame l : List ℕ) (place : ℕ) → Sound frame l
-    → scan run frame place (lineFrom run frame l) ≡ whole (frame ++ l)
+pub sound-whole : (reading : Reading) (run : Run) (frame l : List ℕ) (place : ℕ) → Sound reading frame l
+    → scan reading run frame place (lineFrom run frame l) ≡ whole (frame ++ l)
 unfolding onLine scan frameWith
-sound-whole run frame [] place sound = scan-due run frame place [] ∙ rw (sound, append-nil)
-sound-whole run frame (b ∷ l) place sound =
+sound-whole reading run frame [] place sound = scan-due run frame reading place [] ∙ rw (sound, append-nil)
+sound-whole reading run frame (b ∷ l) place sound =
     let behind = dueRun run frame in
     let at = place + length (dueBits run frame) in
     let none = due-done run frame in
-    scan-due run frame place _
-    ∙ rw (right-bit behind frame at b none (sound .0), none)
-    (sound-whole (runWith behind b) (frame ++ (b ∷ [])) l (at + 1) (sound .1) ∙ ap whole (append-assoc frame (b ∷ []) l))
+    scan-due run frame reading place _
+    ∙ rw (right-bit reading behind frame at b none (sound .0), none)
+    (sound-whole reading (runWith behind b) (frame ++ (b ∷ [])) l (at + 1) (sound .1) ∙ ap whole (append-assoc frame (b ∷ []) l))
 
 -- ---- and back
 
 -- with these bits the frame goes on, and they are what the line holds
-pub record Taken (run : Run) (frame line all : List ℕ) : Type 0 where
+pub record Taken (reading : Reading) (run : Run) (frame line all : List ℕ) : Type 0 where
   pub bits : List ℕ
   pub all-is : frame ++ bits ≡ all
   pub line-is : line ≡ lineFrom run frame bits
-  pub sound : Sound frame bits
+  pub sound : Sound reading frame bits
   pub line-below : Below 2 line
 
-module _ (run : Run) (frame line all : List ℕ) (b : ℕ) where
+module _ (reading : Reading) (run : Run) (frame line all : List ℕ) (b : ℕ) where
   take-stuff : stuffDue run frame ≡ true → run .bit < 2 → (b < 2) × (b ≡ run .bit → ⊥)
-      → Taken (runWith run b) frame line all → Taken run frame (b ∷ line) all
+      → Taken reading (runWith run b) frame line all → Taken reading run frame (b ∷ line) all
   take-stuff due h other taken =
       let is : b ≡ 1 - run .bit = omega (arith, other .0, other .1) in
       let none : stuffDue (runWith run b) frame ≡ false = rw is (due-once run frame) in
@@ -111,8 +112,8 @@ module _ (run : Run) (frame line all : List ℕ) (b : ℕ) where
         line-below = (other .0, taken .line-below);
       }
 
-  take-bit : stuffDue run frame ≡ false → Next frame b
-      → Taken (runWith run b) (frame ++ (b ∷ [])) line all → Taken run frame (b ∷ line) all
+  take-bit : stuffDue run frame ≡ false → Next reading frame b
+      → Taken reading (runWith run b) (frame ++ (b ∷ [])) line all → Taken reading run frame (b ∷ line) all
   unfolding onLine
   take-bit due next taken =
       let l = taken .bits in
@@ -124,12 +125,12 @@ module _ (run : Run) (frame line all : List ℕ) (b : ℕ) where
         line-below = (next .below, taken .line-below);
       }
 
-pub whole-sound : (run : Run) (frame line all : List ℕ) (place : ℕ) → run .bit < 2
-    → scan run frame place line ≡ whole all → Taken run frame line all
+pub whole-sound : (reading : Reading) (run : Run) (frame line all : List ℕ) (place : ℕ) → run .bit < 2
+    → scan reading run frame place line ≡ whole all → Taken reading run frame line all
 unfolding scan onLine frameWith runWith
-whole-sound run frame [] all place h e = go (complete frame) refl e
+whole-sound reading run frame [] all place h e = go (complete frame) refl e
   where
-    go : (t : Bool) → complete frame ≡ t → cond t (whole frame) (stopped (LineLength place)) ≡ whole all → Taken run frame [] all
+    go : (t : Bool) → complete frame ≡ t → cond t (whole frame) (stopped (LineLength place)) ≡ whole all → Taken reading run frame [] all
     go true c e =
         record {
           bits = [];
@@ -139,17 +140,17 @@ whole-sound run frame [] all place h e = go (complete frame) refl e
           line-below = tt;
         }
     go false c e = let z : _≡_ {A = ℕ} 0 1 = cc in absurd (omega arith)
-whole-sound run frame (b ∷ line) all place h e =
-    let on = went-on (verdict run frame place b) _ all e in
-    go (stuffDue run frame) refl (λ f. whole-sound (runWith run b) f line all (place + 1)) (on .0) (on .1)
+whole-sound reading run frame (b ∷ line) all place h e =
+    let on = went-on (verdict reading run frame place b) _ all e in
+    go (stuffDue run frame) refl (λ f. whole-sound reading (runWith run b) f line all (place + 1)) (on .0) (on .1)
   where
     go : (t : Bool) → stuffDue run frame ≡ t
-        → ((f : List ℕ) → b < 2 → scan (runWith run b) f (place + 1) line ≡ whole all → Taken (runWith run b) f line all)
-        → verdict run frame place b ≡ right
-        → scan (runWith run b) (cond t frame (frame ++ (b ∷ []))) (place + 1) line ≡ whole all → Taken run frame (b ∷ line) all
+        → ((f : List ℕ) → b < 2 → scan reading (runWith run b) f (place + 1) line ≡ whole all → Taken reading (runWith run b) f line all)
+        → verdict reading run frame place b ≡ right
+        → scan reading (runWith run b) (cond t frame (frame ++ (b ∷ []))) (place + 1) line ≡ whole all → Taken reading run frame (b ∷ line) all
     go true due rest v s =
-        let other = stuff-right run frame place b due v in
-        take-stuff run frame line all b due h other (rest frame (other .0) s)
+        let other = stuff-right reading run frame place b due v in
+        take-stuff reading run frame line all b due h other (rest frame (other .0) s)
     go false due rest v s =
-        let next = bit-right run frame place b due v in
-        take-bit run frame line all b due next (rest (frame ++ (b ∷ [])) (next .below) s)
+        let next = bit-right reading run frame place b due v in
+        take-bit reading run frame line all b due next (rest (frame ++ (b ∷ [])) (next .below) s)

@@ -15,23 +15,24 @@ use Rattle.refusals.specs.Table.{Numbers, answerNumbers}
 use Rattle.refusals.proofs.Table.{refusal-only, number-some}
 use Rattle.decoding.specs.Decode.{decodeAnswer, payloadOf}
 use Rattle.scanning.specs.Scan.{identifierIn, Scanned, whole, stopped, scanned}
+use Rattle.scanning.specs.declared.Reading.{Reading}
 use Rattle.line.specs.Read.{fieldIn, withIdentifier, decoded, readAnswer, carried, payloadIn, lineNumbers}
 use Rattle.line.specs.declared.Line.{Line}
 use Rattle.line.specs.declared.Line.the-variants.{Frame, Refused}
 
-pub read-stopped : (line : List ℕ) (room : ℕ) (refusal : Refusal) → scanned line ≡ stopped refusal
-    → readAnswer line room ≡ Refused refusal
+pub read-stopped : (reading : Reading) (line : List ℕ) (room : ℕ) (refusal : Refusal) → scanned reading line ≡ stopped refusal
+    → readAnswer reading line room ≡ Refused refusal
 unfolding readAnswer
-read-stopped line room refusal e = ap (λ (s : Scanned). decoded s room) e
+read-stopped reading line room refusal e = ap (λ (s : Scanned). decoded s room) e
 
-pub read-whole : (line frame : List ℕ) (room : ℕ) → scanned line ≡ whole frame
-    → readAnswer line room ≡ withIdentifier (identifierIn frame) (decodeAnswer (fieldIn frame) room)
+pub read-whole : (reading : Reading) (line frame : List ℕ) (room : ℕ) → scanned reading line ≡ whole frame
+    → readAnswer reading line room ≡ withIdentifier (identifierIn frame) (decodeAnswer (fieldIn frame) room)
 unfolding readAnswer
-read-whole line frame room e = ap (λ (s : Scanned). decoded s room) e
+read-whole reading line frame room e = ap (λ (s : Scanned). decoded s room) e
 
-pub payload-whole : (line frame : List ℕ) → scanned line ≡ whole frame → payloadIn line ≡ payloadOf (fieldIn frame)
+pub payload-whole : (reading : Reading) (line frame : List ℕ) → scanned reading line ≡ whole frame → payloadIn reading line ≡ payloadOf (fieldIn frame)
 unfolding payloadIn
-payload-whole line frame e = ap carried e
+payload-whole reading line frame e = ap carried e
 
 pub buffer-alone : (identifier : ℕ) (a : Answer) (result old : List ℕ)
     → after (lineNumbers (withIdentifier identifier a)) result old ≡ after (answerNumbers a) result old

@@ -1,14 +1,15 @@
 -- The refusals of a line. Assumes nothing.
---     read-numbers     2 to 7 and 9 to 13
---     bits-refused     3 and 9 to 13 come from its bits, whatever the room
---     FieldRefused, field-refused    2 and 4 to 7 only where it is the line of a frame, the ACK slot apart, whose data field is refused so
+--     fieldNumbers, read-numbers    2 and 4 to 7, or those of its bits
+--     bits-refused     those of its bits come from these, whatever the room
+--     FieldRefused, field-refused    2 and 4 to 7 only where it is the line of a frame, with a bit in the ACK slot that the reading takes, whose
+--                      data field is refused so
 --     refused-field    and wherever it is
 --     first-problem    a line that is refused for one of its bits is refused so whatever follows that bit
 --     first-of-all     and nothing to the left of that bit is wrong
 --     cut-line         an accepted line, cut anywhere, is refused with 11 at its length
 --     longer-line      and with bits added, with 11 at the first of them
 use mathlib.Core.Path.{_≡_, refl, sym, ap, _∙_, subst}
-use mathlib.Core.List.{List, _∷_, _++_}
+use mathlib.Core.List.{List, [], _∷_, _++_}
 use mathlib.Core.Logic.{_≢_, _⊎_, inl, inr}
 use Prim.Native.Nat.{ℕ, _+_, _≤_, _<_}
 use native.Mathlib.Omega.{arith}
@@ -18,18 +19,20 @@ use Rattle.refusals.specs.declared.Answer.{Answer}
 use Rattle.refusals.specs.declared.Answer.the-variants as answer
 use Rattle.refusals.specs.declared.Refusal.{Refusal}
 use Rattle.refusals.specs.declared.Refusal.the-variants.{LineLength}
+use Rattle.refusals.specs.Among.{Among}
 use Rattle.refusals.specs.Table.{numberOf, placeOf}
+use Rattle.refusals.proofs.Among.{among-apart}
 use Rattle.decoding.specs.Decode.{decodeAnswer}
 use Rattle.decoding.proofs.FieldParts.{LengthAllowed}
 use Rattle.decoding.proofs.DecodeGiven.{decode-numbers}
 use Rattle.frame.specs.Line.{frameLine}
-use Rattle.scanning.specs.Scan.{identifierIn, Scanned, whole, stopped, scanned}
+use Rattle.scanning.specs.Scan.{identifierIn, slotMost, Scanned, whole, stopped, scanned}
+use Rattle.scanning.specs.declared.Reading.{Reading}
 use Rattle.line.specs.Ack.{withAck}
 use Rattle.line.specs.Read.{fieldIn, withIdentifier, decoded, readAnswer}
 use Rattle.line.specs.declared.Line.the-variants.{Frame, Refused}
-use Rattle.line.proofs.AckSlot.{ack-found}
 use Rattle.line.proofs.ReadAnswers.{read-stopped}
-use Rattle.line.proofs.FirstProblem.{OfBits, stopped-at, stopped-stays, cut-before, cut-short, made-longer}
+use Rattle.line.proofs.FirstProblem.{bitNumbers, OfBits, stopped-at, stopped-stays, cut-before, cut-short, made-longer}
 use Rattle.line.proofs.FrameOf.{identifier-few, field-bytes, bytes-below}
 use Rattle.line.proofs.RoundTrip.{read-frame, line-scanned}
 
@@ -38,116 +41,116 @@ from-field : (identifier : ℕ) (a : Answer) (refusal : Refusal) → withIdentif
 from-field identifier (answer.Length n) refusal e = let z : _≡_ {A = ℕ} 0 1 = cc in absurd (omega arith)
 from-field identifier (answer.Refused r) refusal e = cc
 
--- the line of a frame, the ACK slot apart, whose data field decoding refuses so
-abbrev pub FieldRefused : List ℕ → ℕ → Refusal → Type 0
-FieldRefused line room refusal =
-    (identifier : ℕ) × (field : List ℕ) × (identifier ≤ 2047) × Below 256 field × (length field ≢ 1) × (length field ≤ 8)
-    × (withAck 1 line ≡ frameLine identifier field) × Below 2 line × (decodeAnswer field room ≡ answer.Refused refusal)
+-- 2, and 4 to 7
+abbrev pub fieldNumbers : List ℕ
+fieldNumbers = 2 ∷ 4 ∷ 5 ∷ 6 ∷ 7 ∷ []
 
-pub refused-field : (line : List ℕ) (room : ℕ) (refusal : Refusal) → FieldRefused line room refusal → readAnswer line room ≡ Refused refusal
-refused-field line room refusal (identifier, field, known, bytes, not-one, few, is, below, refused) =
-    let slot = ack-found line (frameLine identifier field) is below in
-    ap (λ (l : List ℕ). readAnswer l room) (slot .2)
-    ∙ read-frame identifier field (slot .0) room known bytes few not-one (slot .1)
-    ∙ ap (withIdentifier identifier) refused
+-- of the two kinds a refusal is at most one
+one-kind : (r : Refusal) → OfBits r → Among fieldNumbers (numberOf r) → ⊥
+one-kind r = among-apart bitNumbers fieldNumbers (numberOf r) tt
 
--- a data field that stands in a line has a length that a field may have
-allowed : (line frame : List ℕ) → scanned line ≡ whole frame → LengthAllowed (fieldIn frame)
-allowed line frame e =
-    let right = line-scanned line frame e .0 in
-    let bytes = field-bytes frame right in
-    record { not-one = λ one. right .not-one (sym bytes ∙ one); at-most = omega (arith, bytes, right .at-most) }
+-- ---- of one reading
 
-module _ (line : List ℕ) (room : ℕ) (refusal : Refusal) (e : readAnswer line room ≡ Refused refusal) where
-  decoding : (frame : List ℕ) → decoded (whole frame) room ≡ Refused refusal → decodeAnswer (fieldIn frame) room ≡ answer.Refused refusal
-  decoding frame q = from-field (identifierIn frame) (decodeAnswer (fieldIn frame) room) refusal q
+module _ (reading : Reading) where
+  -- the line of a frame whose data field decoding refuses so
+  abbrev pub FieldRefused : List ℕ → ℕ → Refusal → Type 0
+  FieldRefused line room refusal =
+      (identifier : ℕ) × (field : List ℕ) × (ack : ℕ) × (identifier ≤ 2047) × Below 256 field × (length field ≢ 1) × (length field ≤ 8)
+      × (ack ≤ slotMost (reading .slot)) × (line ≡ withAck ack (frameLine identifier field)) × (decodeAnswer field room ≡ answer.Refused refusal)
 
-  -- the numbers that decoding has for a field in a line: 2, and 4 to 7
-  numbers : (frame : List ℕ) → scanned line ≡ whole frame → decoded (whole frame) room ≡ Refused refusal
-      → (2 ≤ numberOf refusal) × (numberOf refusal ≢ 3) × (numberOf refusal ≤ 7)
-  numbers frame d q = decode-numbers (fieldIn frame) room (allowed line frame d) refusal (decoding frame q)
+  pub refused-field : (line : List ℕ) (room : ℕ) (refusal : Refusal) → FieldRefused line room refusal → readAnswer reading line room ≡ Refused refusal
+  refused-field line room refusal (identifier, field, ack, known, bytes, not-one, few, slot, is, refused) =
+      ap (λ (l : List ℕ). readAnswer reading l room) is ∙ read-frame reading identifier field ack room known bytes few not-one slot
+      ∙ ap (withIdentifier identifier) refused
 
-  pub read-numbers : (2 ≤ numberOf refusal) × (numberOf refusal ≢ 8) × (numberOf refusal ≤ 13)
+  -- a data field that stands in a line has a length that a field may have
+  allowed : (line frame : List ℕ) → scanned reading line ≡ whole frame → LengthAllowed (fieldIn frame)
+  allowed line frame e =
+      let right = line-scanned reading line frame e .0 in
+      let bytes = field-bytes reading frame right in
+      record { not-one = λ one. right .not-one (sym bytes ∙ one); at-most = omega (arith, bytes, right .at-most) }
+
+  module _ (line : List ℕ) (room : ℕ) (refusal : Refusal) (e : readAnswer reading line room ≡ Refused refusal) where
+    decoding : (frame : List ℕ) → decoded (whole frame) room ≡ Refused refusal → decodeAnswer (fieldIn frame) room ≡ answer.Refused refusal
+    decoding frame q = from-field (identifierIn frame) (decodeAnswer (fieldIn frame) room) refusal q
+
+    numbers : (frame : List ℕ) → scanned reading line ≡ whole frame → decoded (whole frame) room ≡ Refused refusal
+        → Among fieldNumbers (numberOf refusal)
+    numbers frame d q = decode-numbers (fieldIn frame) room (allowed line frame d) refusal (decoding frame q)
+
+    pub read-numbers : OfBits refusal ⊎ Among fieldNumbers (numberOf refusal)
+    unfolding readAnswer
+    read-numbers = go (scanned reading line) refl e
+      where
+        go : (s : Scanned) → scanned reading line ≡ s → decoded s room ≡ Refused refusal → OfBits refusal ⊎ Among fieldNumbers (numberOf refusal)
+        go (stopped r) d q = let same : r ≡ refusal = cc in inl (subst OfBits same (stopped-at reading line r d .own))
+        go (whole frame) d q = inr (numbers frame d q)
+
+    pub bits-refused : OfBits refusal → scanned reading line ≡ stopped refusal
+    unfolding readAnswer
+    bits-refused own = go (scanned reading line) refl e
+      where
+        go : (s : Scanned) → scanned reading line ≡ s → decoded s room ≡ Refused refusal → s ≡ stopped refusal
+        go (stopped r) d q = cc
+        go (whole frame) d q = absurd (one-kind refusal own (numbers frame d q))
+
+    pub field-refused : (OfBits refusal → ⊥) → FieldRefused line room refusal
+    unfolding readAnswer
+    field-refused other = go (scanned reading line) refl e
+      where
+        go : (s : Scanned) → scanned reading line ≡ s → decoded s room ≡ Refused refusal → FieldRefused line room refusal
+        go (stopped r) d q = let same : r ≡ refusal = cc in absurd (other (subst OfBits same (stopped-at reading line r d .own)))
+        go (whole frame) d q =
+            let scan = line-scanned reading line frame d in
+            let may = allowed line frame d in (
+              identifierIn frame,
+              fieldIn frame,
+              scan .1 .0,
+              identifier-few reading frame (scan .0),
+              bytes-below reading frame (scan .0),
+              may .not-one,
+              may .at-most,
+              scan .1 .1,
+              scan .1 .2,
+              decoding frame q,
+            )
+
+    -- and nothing to the left of that bit is wrong
+    pub first-of-all : (k room′ : ℕ) → OfBits refusal → k < placeOf refusal → readAnswer reading (take k line) room′ ≡ Refused (LineLength k)
+    first-of-all k room′ own h =
+        read-stopped reading (take k line) room′ (LineLength k) (cut-before reading line refusal k (bits-refused own) h)
+
+    -- of 11 only where bits are too many
+    pub first-problem : (line′ : List ℕ) (room′ : ℕ) → OfBits refusal → (numberOf refusal ≡ 11 → placeOf refusal < length line)
+        → take (placeOf refusal + 1) line ≡ take (placeOf refusal + 1) line′ → readAnswer reading line′ room′ ≡ Refused refusal
+    first-problem line′ room′ own long same =
+        let stop = bits-refused own in
+        read-stopped reading line′ room′ refusal
+        (stopped-stays reading line line′ refusal stop (inside (stopped-at reading line refusal stop .inside)) same)
+      where
+        inside : (placeOf refusal < 0 + length line) ⊎ (refusal ≡ LineLength (0 + length line)) → placeOf refusal < length line
+        inside (inl h) = omega (arith, h)
+        inside (inr end) = long (ap numberOf end)
+
+  -- ---- an accepted line
+
+  accepted-whole : (line : List ℕ) (room identifier n : ℕ) → readAnswer reading line room ≡ Frame identifier n
+      → (frame : List ℕ) × (scanned reading line ≡ whole frame)
   unfolding readAnswer
-  read-numbers = go (scanned line) refl e
+  accepted-whole line room identifier n e = go (scanned reading line) refl e
     where
-      bits : OfBits refusal → (2 ≤ numberOf refusal) × (numberOf refusal ≢ 8) × (numberOf refusal ≤ 13)
-      bits (inl three) = (omega (arith, three), λ eight. omega (arith, three, eight), omega (arith, three))
-      bits (inr above) = (omega (arith, above .0), λ eight. omega (arith, above .0, eight), omega (arith, above .1))
+      go : (s : Scanned) → scanned reading line ≡ s → decoded s room ≡ Frame identifier n → (frame : List ℕ) × (scanned reading line ≡ whole frame)
+      go (stopped r) d q = let z : _≡_ {A = ℕ} 0 1 = cc in absurd (omega arith)
+      go (whole frame) d q = (frame, d)
 
-      go : (s : Scanned) → scanned line ≡ s → decoded s room ≡ Refused refusal
-          → (2 ≤ numberOf refusal) × (numberOf refusal ≢ 8) × (numberOf refusal ≤ 13)
-      go (stopped r) d q = let same : r ≡ refusal = cc in bits (subst OfBits same (stopped-at line r d .own))
-      go (whole frame) d q =
-          let h = numbers frame d q in
-          (h .0, λ eight. omega (arith, h .2, eight), omega (arith, h .2))
+  pub cut-line : (line : List ℕ) (room room′ identifier n k : ℕ) → readAnswer reading line room ≡ Frame identifier n → k < length line
+      → readAnswer reading (take k line) room′ ≡ Refused (LineLength k)
+  cut-line line room room′ identifier n k e h =
+      let read = accepted-whole line room identifier n e in
+      read-stopped reading (take k line) room′ (LineLength k) (cut-short reading line (read .0) k (read .1) h)
 
-  pub bits-refused : OfBits refusal → scanned line ≡ stopped refusal
-  unfolding readAnswer
-  bits-refused own = go (scanned line) refl e
-    where
-      none : (2 ≤ numberOf refusal) × (numberOf refusal ≢ 3) × (numberOf refusal ≤ 7) → OfBits refusal → ⊥
-      none h (inl three) = h .1 three
-      none h (inr above) = omega (arith, h .2, above .0)
-
-      go : (s : Scanned) → scanned line ≡ s → decoded s room ≡ Refused refusal → s ≡ stopped refusal
-      go (stopped r) d q = cc
-      go (whole frame) d q = absurd (none (numbers frame d q) own)
-
-  pub field-refused : (OfBits refusal → ⊥) → FieldRefused line room refusal
-  unfolding readAnswer
-  field-refused other = go (scanned line) refl e
-    where
-      go : (s : Scanned) → scanned line ≡ s → decoded s room ≡ Refused refusal → FieldRefused line room refusal
-      go (stopped r) d q = let same : r ≡ refusal = cc in absurd (other (subst OfBits same (stopped-at line r d .own)))
-      go (whole frame) d q =
-          let scan = line-scanned line frame d in
-          let may = allowed line frame d in (
-            identifierIn frame,
-            fieldIn frame,
-            identifier-few frame (scan .0),
-            bytes-below frame (scan .0),
-            may .not-one,
-            may .at-most,
-            scan .1,
-            scan .2,
-            decoding frame q,
-          )
-
-  -- and nothing to the left of that bit is wrong
-  pub first-of-all : (k room′ : ℕ) → OfBits refusal → k < placeOf refusal → readAnswer (take k line) room′ ≡ Refused (LineLength k)
-  first-of-all k room′ own h = read-stopped (take k line) room′ (LineLength k) (cut-before line refusal k (bits-refused own) h)
-
-  -- of 11 only where bits are too many
-  pub first-problem : (line′ : List ℕ) (room′ : ℕ) → OfBits refusal → (numberOf refusal ≡ 11 → placeOf refusal < length line)
-      → take (placeOf refusal + 1) line ≡ take (placeOf refusal + 1) line′ → readAnswer line′ room′ ≡ Refused refusal
-  first-problem line′ room′ own long same =
-      let stop = bits-refused own in
-      read-stopped line′ room′ refusal (stopped-stays line line′ refusal stop (inside (stopped-at line refusal stop .inside)) same)
-    where
-      inside : (placeOf refusal < 0 + length line) ⊎ (refusal ≡ LineLength (0 + length line)) → placeOf refusal < length line
-      inside (inl h) = omega (arith, h)
-      inside (inr end) = long (ap numberOf end)
-
--- ---- an accepted line
-
-accepted-whole : (line : List ℕ) (room identifier n : ℕ) → readAnswer line room ≡ Frame identifier n
-    → (frame : List ℕ) × (scanned line ≡ whole frame)
-unfolding readAnswer
-accepted-whole line room identifier n e = go (scanned line) refl e
-  where
-    go : (s : Scanned) → scanned line ≡ s → decoded s room ≡ Frame identifier n → (frame : List ℕ) × (scanned line ≡ whole frame)
-    go (stopped r) d q = let z : _≡_ {A = ℕ} 0 1 = cc in absurd (omega arith)
-    go (whole frame) d q = (frame, d)
-
-pub cut-line : (line : List ℕ) (room room′ identifier n k : ℕ) → readAnswer line room ≡ Frame identifier n → k < length line
-    → readAnswer (take k line) room′ ≡ Refused (LineLength k)
-cut-line line room room′ identifier n k e h =
-    let read = accepted-whole line room identifier n e in
-    read-stopped (take k line) room′ (LineLength k) (cut-short line (read .0) k (read .1) h)
-
-pub longer-line : (line : List ℕ) (room room′ identifier n bit : ℕ) (more : List ℕ) → readAnswer line room ≡ Frame identifier n
-    → readAnswer (line ++ (bit ∷ more)) room′ ≡ Refused (LineLength (length line))
-longer-line line room room′ identifier n bit more e =
-    let read = accepted-whole line room identifier n e in
-    read-stopped (line ++ (bit ∷ more)) room′ (LineLength (length line)) (made-longer line (read .0) bit more (read .1))
+  pub longer-line : (line : List ℕ) (room room′ identifier n bit : ℕ) (more : List ℕ) → readAnswer reading line room ≡ Frame identifier n
+      → readAnswer reading (line ++ (bit ∷ more)) room′ ≡ Refused (LineLength (length line))
+  longer-line line room room′ identifier n bit more e =
+      let read = accepted-whole line room identifier n e in
+      read-stopped reading (line ++ (bit ∷ more)) room′ (LineLength (length line)) (made-longer reading line (read .0) bit more (read .1))

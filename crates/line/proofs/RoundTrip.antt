@@ -1,19 +1,21 @@
--- Making and reading a frame undo each other, of the definitions, whatever bit stands in the ACK slot. Assumes nothing.
+-- Making and reading a frame undo each other, of the definitions, for every reading and each bit that it takes in the ACK slot. Assumes
+-- nothing.
 --     read-frame      the line of a frame with any data field that its DLC may count is read as decoding the field answers
 --     read-made       a made line is accepted where the payload has room, and gives identifier and payload back
 --     own-ack         the maker's own bit in the ACK slot is 1
---     Coded           a line is that of an identifier and a payload, but for the bit in the ACK slot
---     line-scanned    a line whose bits are all right is that of a frame, but for the bit in the ACK slot
+--     slot-apart, slot-holds    set to 1 again, the made line is as it was; and a bit that is set there stands there
+--     Coded           a line is that of an identifier and a payload, with a bit in the ACK slot that the reading takes
+--     line-scanned    a line whose bits are all right is that of a frame, with such a bit
 --     accepted-is-coded    whatever reading accepts is that of the identifier and the payload that it gives
 --     coded-is-accepted    and each such line is accepted where the payload has room
---     accepted-below  each of its bytes is 0 or 1
+--     coded-apart     of which it is the line, the ACK slot apart
 --     one-line        accepted lines that give one identifier and one payload are one, but for the bit in the ACK slot
 use mathlib.Core.Path.{_≡_, refl, sym, ap, ap₂, _∙_}
 use mathlib.Core.List.{List, []}
-use Prim.Native.Nat.{ℕ, _≤_, _<_}
+use Prim.Native.Nat.{ℕ, _-_, _≤_}
 use native.Mathlib.Omega.{arith}
 use lib.Dec.{lit<}
-use lib.ListN.{length}
+use lib.ListN.{length, getD}
 use Rattle.bits.specs.Below.{Below}
 use Rattle.bits.specs.Stuffing.{nothingSent}
 use Rattle.refusals.specs.declared.Answer.{Answer}
@@ -26,12 +28,13 @@ use Rattle.decoding.proofs.Accepted.{accepted}
 use Rattle.decoding.proofs.RoundTrip.{decode-encode, payload-of-field, field-of-payload}
 use Rattle.frame.specs.Line.{frameLine}
 use Rattle.frame.specs.Answers.{payloadLine}
-use Rattle.scanning.specs.Scan.{identifierIn, Scanned, whole, stopped, scanned}
+use Rattle.scanning.specs.Scan.{identifierIn, slotMost, Scanned, whole, stopped, scanned}
+use Rattle.scanning.specs.declared.Reading.{Reading}
 use Rattle.line.specs.Read.{fieldIn, withIdentifier, decoded, readAnswer, payloadIn}
 use Rattle.line.specs.Ack.{withAck}
 use Rattle.line.specs.declared.Line.the-variants.{Frame}
 use Rattle.line.proofs.OnLine.{lineFrom, sound-whole, whole-sound}
-use Rattle.line.proofs.AckSlot.{line-own, ack-again, ack-found}
+use Rattle.line.proofs.AckSlot.{line-own, ack-again, ack-holds}
 use Rattle.line.proofs.LineOf.{line-of}
 use Rattle.line.proofs.Right.{Right, right-sound, sound-right}
 use Rattle.line.proofs.FrameBits.{headerBits, dataBits, frameBits, frame-start, frame-right, identifier-back, field-back}
@@ -44,126 +47,139 @@ unfolding frameBits frameLine
 frame-line identifier field ack few =
     line-of (headerBits identifier field) (dataBits identifier field) ack (sym (frame-start identifier field ack few))
 
--- ---- made, then read
-
 pub own-ack : (identifier : ℕ) (payload : List ℕ) → withAck 1 (payloadLine identifier payload) ≡ payloadLine identifier payload
 unfolding frameLine
 own-ack identifier payload = let field = fieldOf payload in line-own (headerBits identifier field) (dataBits identifier field)
 
-frame-scanned : (identifier : ℕ) (field : List ℕ) (ack : ℕ) → length field ≤ 8 → (length field ≡ 1 → ⊥) → ack < 2
-    → scanned (withAck ack (frameLine identifier field)) ≡ whole (frameBits identifier field ack)
-unfolding scanned
-frame-scanned identifier field ack few not-one h =
-    let all = frameBits identifier field ack in
-    rw (← frame-line identifier field ack few)
-    (sound-whole nothingSent [] all 0 (right-sound [] all (frame-right identifier field ack few not-one h)))
-
-pub read-frame : (identifier : ℕ) (field : List ℕ) (ack room : ℕ)
-    → identifier ≤ 2047 → Below 256 field → length field ≤ 8 → (length field ≡ 1 → ⊥) → ack < 2
-    → readAnswer (withAck ack (frameLine identifier field)) room ≡ withIdentifier identifier (decodeAnswer field room)
-unfolding readAnswer
-read-frame identifier field ack room known bytes few not-one h =
-    rw (
-      frame-scanned identifier field ack few not-one h,
-      field-back identifier field ack bytes few,
-      identifier-back identifier field ack (omega arith),
-    )
-
-pub read-made : (identifier : ℕ) (payload : List ℕ) (ack room : ℕ)
-    → identifier ≤ 2047 → Below 256 payload → length payload ≤ 7 → length payload ≤ room → ack < 2 →
-    let line = withAck ack (payloadLine identifier payload) in
-    (readAnswer line room ≡ Frame identifier (length payload)) × (payloadIn line ≡ payload)
-unfolding payloadIn
-read-made identifier payload ack room known bytes short fits h =
-    let field = fieldOf payload in
-    let n = field-length payload in
-    let few : length field ≤ 8 = omega (arith, fieldBytes-few (length payload) short) in
-    let not-one : length field ≡ 1 → ⊥ = λ e. fieldBytes-not-one (length payload) (sym n ∙ e) in (
-      read-frame identifier field ack room known (field-below payload) few not-one h
-          ∙ ap (withIdentifier identifier) (decode-encode payload room bytes short fits),
-      rw (frame-scanned identifier field ack few not-one h, field-back identifier field ack (field-below payload) few)
-          (payload-of-field payload bytes short),
-    )
-
--- ---- read, then made
-
-pub record Coded (line : List ℕ) (room identifier n : ℕ) : Type 0 where
-  pub known : identifier ≤ 2047
-  pub length-is : length (payloadIn line) ≡ n
-  pub short : n ≤ 7
-  pub fits : n ≤ room
-  pub bytes : Below 256 (payloadIn line)
-  pub line-is : withAck 1 line ≡ payloadLine identifier (payloadIn line)
-  pub line-below : Below 2 line
-
-right-line : (frame : List ℕ) → Right frame
-    → withAck 1 (lineFrom nothingSent [] frame) ≡ frameLine (identifierIn frame) (fieldIn frame)
+pub slot-apart : (identifier : ℕ) (field : List ℕ) (ack : ℕ) → withAck 1 (withAck ack (frameLine identifier field)) ≡ frameLine identifier field
 unfolding frameLine
-right-line frame right =
-    let identifier = identifierIn frame in
-    let field = fieldIn frame in
-    let few : length field ≤ 8 = omega (arith, field-bytes frame right, right .at-most) in
-    let is = right-frame frame right in
-    ap (λ (l : List ℕ). withAck 1 (lineFrom nothingSent [] l)) (is .2)
-    ∙ ap (withAck 1) (frame-line identifier field (is .0) few)
-    ∙ ack-again (headerBits identifier field) (dataBits identifier field) (is .0)
+slot-apart identifier field ack = ack-again (headerBits identifier field) (dataBits identifier field) ack
 
-pub line-scanned : (line frame : List ℕ) → scanned line ≡ whole frame
-    → Right frame × (withAck 1 line ≡ frameLine (identifierIn frame) (fieldIn frame)) × Below 2 line
-unfolding scanned
-line-scanned line frame e =
-    let taken = whole-sound nothingSent [] line frame 0 (lit< tt) e in
-    let right : Right frame = rw (taken .all-is) at (sound-right (taken .bits) (taken .sound)) in (
-      right,
-      ap (withAck 1) (taken .line-is ∙ ap (lineFrom nothingSent []) (taken .all-is)) ∙ right-line frame right,
-      taken .line-below,
-    )
+pub slot-holds : (identifier : ℕ) (field : List ℕ) (ack : ℕ) →
+    let line = withAck ack (frameLine identifier field) in
+    getD line (length line - 9) 0 ≡ ack
+unfolding frameLine
+slot-holds identifier field ack = ack-holds (headerBits identifier field) (dataBits identifier field) ack
 
-whole-coded : (line frame : List ℕ) (room identifier n : ℕ) → scanned line ≡ whole frame
-    → identifierIn frame ≡ identifier → decodeAnswer (fieldIn frame) room ≡ answer.Length n → Coded line room identifier n
-unfolding payloadIn
-whole-coded line frame room identifier n e is d =
-    let scan = line-scanned line frame e in
-    let field = accepted (fieldIn frame) room n d in
-    let back = field-of-payload (fieldIn frame) room n (bytes-below frame (scan .0)) d in
-    record {
-      known = omega (arith, identifier-few frame (scan .0));
-      length-is = rw e (back .1);
-      short = back .2;
-      fits = omega (arith, field .size-is, field .begun .fits);
-      bytes = rw e (back .3);
-      line-is = scan .1 ∙ ap₂ frameLine is (sym (back .0) ∙ rw e);
-      line-below = scan .2;
-    }
+-- ---- made, then read
 
-with-identifier : (i identifier n : ℕ) (a : Answer) → withIdentifier i a ≡ Frame identifier n
-    → (i ≡ identifier) × (a ≡ answer.Length n)
-with-identifier i identifier n (answer.Length m) e = (cc, cc)
-with-identifier i identifier n (answer.Refused refusal) e = let z : _≡_ {A = ℕ} 0 1 = cc in absurd (omega arith)
+module _ (reading : Reading) where
+  frame-scanned : (identifier : ℕ) (field : List ℕ) (ack : ℕ) → length field ≤ 8 → (length field ≡ 1 → ⊥) → ack ≤ slotMost (reading .slot)
+      → scanned reading (withAck ack (frameLine identifier field)) ≡ whole (frameBits identifier field ack)
+  unfolding scanned
+  frame-scanned identifier field ack few not-one h =
+      let all = frameBits identifier field ack in
+      rw (← frame-line identifier field ack few)
+      (sound-whole reading nothingSent [] all 0 (right-sound reading [] all (frame-right identifier field reading ack few not-one h)))
 
-pub coded-is-accepted : (line : List ℕ) (room identifier : ℕ) (payload : List ℕ) → withAck 1 line ≡ payloadLine identifier payload → Below 2 line
-    → identifier ≤ 2047 → Below 256 payload → length payload ≤ 7 → length payload ≤ room → readAnswer line room ≡ Frame identifier (length payload)
-coded-is-accepted line room identifier payload is below known bytes short fits =
-    let slot = ack-found line (payloadLine identifier payload) is below in
-    ap (λ (l : List ℕ). readAnswer l room) (slot .2) ∙ read-made identifier payload (slot .0) room known bytes short fits (slot .1) .0
-
-module _ (line : List ℕ) (room identifier n : ℕ) (e : readAnswer line room ≡ Frame identifier n) where
-  pub accepted-is-coded : Coded line room identifier n
+  pub read-frame : (identifier : ℕ) (field : List ℕ) (ack room : ℕ)
+      → identifier ≤ 2047 → Below 256 field → length field ≤ 8 → (length field ≡ 1 → ⊥) → ack ≤ slotMost (reading .slot)
+      → readAnswer reading (withAck ack (frameLine identifier field)) room ≡ withIdentifier identifier (decodeAnswer field room)
   unfolding readAnswer
-  accepted-is-coded = go (scanned line) refl e
+  read-frame identifier field ack room known bytes few not-one h =
+      rw (
+        frame-scanned identifier field ack few not-one h,
+        field-back identifier field ack bytes few,
+        identifier-back identifier field ack (omega arith),
+      )
+
+  pub read-made : (identifier : ℕ) (payload : List ℕ) (ack room : ℕ)
+      → identifier ≤ 2047 → Below 256 payload → length payload ≤ 7 → length payload ≤ room → ack ≤ slotMost (reading .slot) →
+      let line = withAck ack (payloadLine identifier payload) in
+      (readAnswer reading line room ≡ Frame identifier (length payload)) × (payloadIn reading line ≡ payload)
+  unfolding payloadIn
+  read-made identifier payload ack room known bytes short fits h =
+      let field = fieldOf payload in
+      let n = field-length payload in
+      let few : length field ≤ 8 = omega (arith, fieldBytes-few (length payload) short) in
+      let not-one : length field ≡ 1 → ⊥ = λ e. fieldBytes-not-one (length payload) (sym n ∙ e) in (
+        read-frame identifier field ack room known (field-below payload) few not-one h
+            ∙ ap (withIdentifier identifier) (decode-encode payload room bytes short fits),
+        rw (frame-scanned identifier field ack few not-one h, field-back identifier field ack (field-below payload) few)
+            (payload-of-field payload bytes short),
+      )
+
+  pub coded-is-accepted : (line : List ℕ) (room identifier : ℕ) (payload : List ℕ) (ack : ℕ) → line ≡ withAck ack (payloadLine identifier payload)
+      → ack ≤ slotMost (reading .slot) → identifier ≤ 2047 → Below 256 payload → length payload ≤ 7 → length payload ≤ room
+      → readAnswer reading line room ≡ Frame identifier (length payload)
+  coded-is-accepted line room identifier payload ack is h known bytes short fits =
+      ap (λ (l : List ℕ). readAnswer reading l room) is ∙ read-made identifier payload ack room known bytes short fits h .0
+
+  -- ---- read, then made
+
+  pub record Coded (line : List ℕ) (room identifier n : ℕ) : Type 0 where
+    pub known : identifier ≤ 2047
+    pub length-is : length (payloadIn reading line) ≡ n
+    pub short : n ≤ 7
+    pub fits : n ≤ room
+    pub bytes : Below 256 (payloadIn reading line)
+    pub ack : ℕ
+    pub slot : ack ≤ slotMost (reading .slot)
+    pub line-is : line ≡ withAck ack (payloadLine identifier (payloadIn reading line))
+    pub line-below : Below 2 line
+
+  pub line-scanned : (line frame : List ℕ) → scanned reading line ≡ whole frame
+      → Right reading frame
+      × ((ack : ℕ) × (ack ≤ slotMost (reading .slot)) × (line ≡ withAck ack (frameLine (identifierIn frame) (fieldIn frame)))) × Below 2 line
+  unfolding scanned
+  line-scanned line frame e =
+      let taken = whole-sound reading nothingSent [] line frame 0 (lit< tt) e in
+      let right : Right reading frame = rw (taken .all-is) at (sound-right reading (taken .bits) (taken .sound)) in
+      let field = fieldIn frame in
+      let few : length field ≤ 8 = omega (arith, field-bytes reading frame right, right .at-most) in
+      let is = right-frame reading frame right in (
+        right,
+        (
+          is .0,
+          is .1,
+          taken .line-is ∙ ap (lineFrom nothingSent []) (taken .all-is ∙ is .2) ∙ frame-line (identifierIn frame) field (is .0) few,
+        ),
+        taken .line-below,
+      )
+
+  whole-coded : (line frame : List ℕ) (room identifier n : ℕ) → scanned reading line ≡ whole frame
+      → identifierIn frame ≡ identifier → decodeAnswer (fieldIn frame) room ≡ answer.Length n → Coded line room identifier n
+  unfolding payloadIn
+  whole-coded line frame room identifier n e is d =
+      let scan = line-scanned line frame e in
+      let field = accepted (fieldIn frame) room n d in
+      let back = field-of-payload (fieldIn frame) room n (bytes-below reading frame (scan .0)) d in
+      record {
+        known = omega (arith, identifier-few reading frame (scan .0));
+        length-is = rw e (back .1);
+        short = back .2;
+        fits = omega (arith, field .size-is, field .begun .fits);
+        bytes = rw e (back .3);
+        ack = scan .1 .0;
+        slot = scan .1 .1;
+        line-is = scan .1 .2 ∙ ap (withAck (scan .1 .0)) (ap₂ frameLine is (sym (back .0) ∙ rw e));
+        line-below = scan .2;
+      }
+
+  with-identifier : (i identifier n : ℕ) (a : Answer) → withIdentifier i a ≡ Frame identifier n
+      → (i ≡ identifier) × (a ≡ answer.Length n)
+  with-identifier i identifier n (answer.Length m) e = (cc, cc)
+  with-identifier i identifier n (answer.Refused refusal) e = let z : _≡_ {A = ℕ} 0 1 = cc in absurd (omega arith)
+
+  pub accepted-is-coded : (line : List ℕ) (room identifier n : ℕ) → readAnswer reading line room ≡ Frame identifier n → Coded line room identifier n
+  unfolding readAnswer
+  accepted-is-coded line room identifier n e = go (scanned reading line) refl e
     where
-      go : (s : Scanned) → scanned line ≡ s → decoded s room ≡ Frame identifier n → Coded line room identifier n
+      go : (s : Scanned) → scanned reading line ≡ s → decoded s room ≡ Frame identifier n → Coded line room identifier n
       go (stopped refusal) p q = let z : _≡_ {A = ℕ} 0 1 = cc in absurd (omega arith)
       go (whole frame) p q =
           let is = with-identifier (identifierIn frame) identifier n (decodeAnswer (fieldIn frame) room) q in
           whole-coded line frame room identifier n p (is .0) (is .1)
 
-  pub accepted-below : Below 2 line
-  accepted-below = accepted-is-coded .line-below
+-- the line of a frame, the ACK slot apart
+pub coded-apart : (reading : Reading) (line : List ℕ) (room identifier n : ℕ) → Coded reading line room identifier n
+    → withAck 1 line ≡ payloadLine identifier (payloadIn reading line)
+coded-apart reading line room identifier n coded =
+    ap (withAck 1) (coded .line-is) ∙ slot-apart identifier (fieldOf (payloadIn reading line)) (coded .ack)
 
-pub one-line : (line other : List ℕ) (room room' identifier n n' : ℕ)
-    → readAnswer line room ≡ Frame identifier n → readAnswer other room' ≡ Frame identifier n'
-    → payloadIn line ≡ payloadIn other → withAck 1 line ≡ withAck 1 other
-one-line line other room room' identifier n n' e e' same =
-    accepted-is-coded line room identifier n e .line-is ∙ ap (payloadLine identifier) same
-    ∙ sym (accepted-is-coded other room' identifier n' e' .line-is)
+pub one-line : (reading other : Reading) (line line′ : List ℕ) (room room′ identifier n n′ : ℕ)
+    → readAnswer reading line room ≡ Frame identifier n → readAnswer other line′ room′ ≡ Frame identifier n′
+    → payloadIn reading line ≡ payloadIn other line′ → withAck 1 line ≡ withAck 1 line′
+one-line reading other line line′ room room′ identifier n n′ e e′ same =
+    coded-apart reading line room identifier n (accepted-is-coded reading line room identifier n e) ∙ ap (payloadLine identifier) same
+    ∙ sym (coded-apart other line′ room′ identifier n′ (accepted-is-coded other line′ room′ identifier n′ e′))

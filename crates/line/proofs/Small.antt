@@ -21,6 +21,7 @@ use Rattle.refusals.proofs.Table.{high-none}
 use Rattle.decoding.specs.Decode.{decodeAnswer}
 use Rattle.decoding.proofs.Small.{decode-small}
 use Rattle.scanning.specs.Scan.{identifierIn, dlcIn, crcStart, complete, stuffDue, Verdict, right, wrong, verdict, runWith, frameWith, Scanned, whole, stopped, onward, scan, scanned}
+use Rattle.scanning.specs.declared.Reading.{Reading}
 use Rattle.scanning.proofs.Verdicts.{taken-dlc}
 use Rattle.scanning.proofs.Partial.{dlc-stays}
 use Rattle.line.specs.Read.{fieldIn, withIdentifier, decoded, readAnswer, lineNumbers}
@@ -39,9 +40,9 @@ unfolding crcStart
 few-most frame (inl h) = omega arith
 few-most frame (inr h) = omega (arith, h .0, h .1)
 
-few-next : (frame : List ℕ) (bit : ℕ) → Few frame → Next frame bit → Few (frame ++ (bit ∷ []))
+few-next : (reading : Reading) (frame : List ℕ) (bit : ℕ) → Few frame → Next reading frame bit → Few (frame ++ (bit ∷ []))
 unfolding crcStart complete
-few-next frame bit few next = first (ltb (length frame) 18) refl
+few-next reading frame bit few next = first (ltb (length frame) 18) refl
   where
     with : List ℕ
     with = frame ++ (bit ∷ [])
@@ -70,15 +71,15 @@ record Near (run : Run) (frame : List ℕ) (place : ℕ) : Type 0 where
   nearer : run .count ≡ 5 → place < 2 * length frame
 
 -- behind a bit that is right both hold again
-module _ (run : Run) (frame : List ℕ) (place bit : ℕ) (few : Few frame) (close : Near run frame place)
-    (e : verdict run frame place bit ≡ right) where
+module _ (reading : Reading) (run : Run) (frame : List ℕ) (place bit : ℕ) (few : Few frame) (close : Near run frame place)
+    (e : verdict reading run frame place bit ≡ right) where
   behind-few : Few (frameWith run frame bit)
   unfolding frameWith
   behind-few = go (stuffDue run frame) refl
     where
       go : (t : Bool) → stuffDue run frame ≡ t → Few (cond t frame (frame ++ (bit ∷ [])))
       go true d = few
-      go false d = few-next frame bit few (bit-right run frame place bit d e)
+      go false d = few-next reading frame bit few (bit-right reading run frame place bit d e)
 
   behind-near : Near (runWith run bit) (frameWith run frame bit) (place + 1)
   unfolding frameWith runWith stuffDue
@@ -91,32 +92,32 @@ module _ (run : Run) (frame : List ℕ) (place bit : ℕ) (few : Few frame) (clo
       go : (t : Bool) → stuffDue run frame ≡ t → Near (runWith run bit) (cond t frame (frame ++ (bit ∷ []))) (place + 1)
       go true d =
           let five = eqb-true (run .count) 5 (due-five (eqb (run .count) 5) _ d) in
-          let other = ne-eqb bit (run .bit) (stuff-right run frame place bit d e .1) in
+          let other = ne-eqb bit (run .bit) (stuff-right reading run frame place bit d e .1) in
           let step = close .nearer five in
           record { near = omega (arith, step); nearer = λ h. let one : _≡_ {A = ℕ} 1 5 = rw other at h in absurd (omega arith) }
       go false d = let more = length-append frame (bit ∷ []) in record { near = omega (arith, more, close .near); nearer = λ h. omega (arith, more, close .near) }
 
-stop-few : (run : Run) (frame : List ℕ) (place : ℕ) (line : List ℕ) (refusal : Refusal) → Few frame → Near run frame place
-    → scan run frame place line ≡ stopped refusal → placeOf refusal ≤ 216
+stop-few : (reading : Reading) (run : Run) (frame : List ℕ) (place : ℕ) (line : List ℕ) (refusal : Refusal) → Few frame → Near run frame place
+    → scan reading run frame place line ≡ stopped refusal → placeOf refusal ≤ 216
 unfolding scan
-stop-few run frame place [] refusal few close e = go (complete frame) e
+stop-few reading run frame place [] refusal few close e = go (complete frame) e
   where
     go : (t : Bool) → cond t (whole frame) (stopped (LineLength place)) ≡ stopped refusal → placeOf refusal ≤ 216
     go true d = never d
     go false d = omega (arith, ap placeOf (stopped-only d), few-most frame few, close .near)
-stop-few run frame place (bit ∷ line) refusal few close e =
-    go (verdict run frame place bit) refl (verdict-at run frame place bit) e
-    (stop-few (runWith run bit) (frameWith run frame bit) (place + 1) line refusal)
+stop-few reading run frame place (bit ∷ line) refusal few close e =
+    go (verdict reading run frame place bit) refl (verdict-at reading run frame place bit) e
+    (stop-few reading (runWith run bit) (frameWith run frame bit) (place + 1) line refusal)
   where
     next : Scanned
-    next = scan (runWith run bit) (frameWith run frame bit) (place + 1) line
+    next = scan reading (runWith run bit) (frameWith run frame bit) (place + 1) line
 
-    go : (v : Verdict) → verdict run frame place bit ≡ v → At place v → onward v next ≡ stopped refusal
+    go : (v : Verdict) → verdict reading run frame place bit ≡ v → At place v → onward v next ≡ stopped refusal
         → (Few (frameWith run frame bit) → Near (runWith run bit) (frameWith run frame bit) (place + 1) → next ≡ stopped refusal
         → placeOf refusal ≤ 216)
         → placeOf refusal ≤ 216
     go right d at q later =
-        later (behind-few run frame place bit few close d) (behind-near run frame place bit few close d) q
+        later (behind-few reading run frame place bit few close d) (behind-near reading run frame place bit few close d) q
     go (wrong r) d at q later = omega (arith, ap placeOf (stopped-only q), at .0, few-most frame few, close .near)
 
 -- out of the data field
@@ -127,24 +128,24 @@ field-few identifier (answer.Refused r) refusal small e =
     let same : r ≡ refusal = cc in
     omega (arith, ap placeOf same, small)
 
-place-few : (line : List ℕ) (room : ℕ) (refusal : Refusal) → readAnswer line room ≡ Refused refusal → placeOf refusal ≤ 216
+place-few : (reading : Reading) (line : List ℕ) (room : ℕ) (refusal : Refusal) → readAnswer reading line room ≡ Refused refusal → placeOf refusal ≤ 216
 unfolding readAnswer scanned
-place-few line room refusal e = go (scanned line) refl e
+place-few reading line room refusal e = go (scanned reading line) refl e
   where
-    go : (s : Scanned) → scanned line ≡ s → decoded s room ≡ Refused refusal → placeOf refusal ≤ 216
+    go : (s : Scanned) → scanned reading line ≡ s → decoded s room ≡ Refused refusal → placeOf refusal ≤ 216
     go (stopped r) d q =
         let same : r ≡ refusal = cc in
         let start : Near nothingSent [] 0 = record { near = omega arith; nearer = λ h. absurd (omega arith) } in
-        stop-few nothingSent [] 0 line refusal (inl (lit< tt)) start (d ∙ ap stopped same)
+        stop-few reading nothingSent [] 0 line refusal (inl (lit< tt)) start (d ∙ ap stopped same)
     go (whole frame) d q = field-few (identifierIn frame) (decodeAnswer (fieldIn frame) room) refusal (decode-small (fieldIn frame) room) q
 
-pub read-small : (line : List ℕ) (room : ℕ) →
-    let numbers = lineNumbers (readAnswer line room) in
+pub read-small : (reading : Reading) (line : List ℕ) (room : ℕ) →
+    let numbers = lineNumbers (readAnswer reading line room) in
     (numbers .low < 217) × (numbers .high < 2048)
-read-small line room = go (readAnswer line room) refl
+read-small reading line room = go (readAnswer reading line room) refl
   where
-    go : (l : Line) → readAnswer line room ≡ l → (lineNumbers l .low < 217) × (lineNumbers l .high < 2048)
+    go : (l : Line) → readAnswer reading line room ≡ l → (lineNumbers l .low < 217) × (lineNumbers l .high < 2048)
     go (Frame identifier n) e =
-        let coded = accepted-is-coded line room identifier n e in
+        let coded = accepted-is-coded reading line room identifier n e in
         (omega (arith, coded .short), omega (arith, coded .known))
-    go (Refused refusal) e = (omega (arith, place-few line room refusal e), omega (arith, high-none refusal))
+    go (Refused refusal) e = (omega (arith, place-few reading line room refusal e), omega (arith, high-none refusal))

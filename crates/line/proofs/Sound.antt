@@ -1,5 +1,5 @@
 -- The bits with which a scan finds no fault. Assumes nothing.
---     dlcWrong, crcWrong    the tests behind 3 and 12, of a frame's bits so far
+--     dlcWrong, crcWrong, slotWrong    the tests behind 3, 12 and 20, of a frame's bits so far
 --     Next            a frame's bits so far may go on with this bit
 --     Sound           and with these bits, which make it complete
 --     bit-right, right-bit       where no stuff bit is due, the scan finds no fault with these bits, and with no others
@@ -16,7 +16,8 @@ use borrow.Author.Tests.{ltb-false, eqb-true, eqb-false}
 use Rattle.bits.specs.declared.Run.{Run}
 use Rattle.refusals.specs.declared.Refusal.{Refusal}
 use Rattle.scanning.specs.Form.{fits}
-use Rattle.scanning.specs.Scan.{crcStart, complete, stuffDue, mustBe, dlcRefused, crcRight, shown, Verdict, right, wrong, verdict}
+use Rattle.scanning.specs.Scan.{crcStart, complete, stuffDue, mustBe, dlcRefused, crcRight, slotRight, shown, Verdict, right, wrong, verdict}
+use Rattle.scanning.specs.declared.Reading.{Reading}
 use Rattle.scanning.proofs.StuffDue.{due-past}
 use Rattle.scanning.proofs.Verdicts.{stuff-bit, frame-bit}
 
@@ -26,16 +27,20 @@ dlcWrong frame = eqb (length frame) 19 && dlcRefused frame
 abbrev pub crcWrong : List ℕ → Bool
 crcWrong frame = eqb (length frame) (crcStart frame + 15) && not (crcRight frame)
 
-pub record Next (frame : List ℕ) (bit : ℕ) : Type 0 where
+abbrev pub slotWrong : Reading → List ℕ → Bool
+slotWrong reading frame = eqb (length frame) (crcStart frame + 17) && not (slotRight reading frame)
+
+pub record Next (reading : Reading) (frame : List ℕ) (bit : ℕ) : Type 0 where
   pub below : bit < 2
   pub more : complete frame ≡ false
   pub fitting : fits (mustBe frame) bit ≡ true
   pub dlc : dlcWrong (frame ++ (bit ∷ [])) ≡ false
   pub check : crcWrong (frame ++ (bit ∷ [])) ≡ false
+  pub slot : slotWrong reading (frame ++ (bit ∷ [])) ≡ false
 
-abbrev pub Sound : List ℕ → List ℕ → Type 0
-Sound frame [] = complete frame ≡ true
-Sound frame (b ∷ l) = Next frame b × Sound (frame ++ (b ∷ [])) l
+abbrev pub Sound : Reading → List ℕ → List ℕ → Type 0
+Sound reading frame [] = complete frame ≡ true
+Sound reading frame (b ∷ l) = Next reading frame b × Sound reading (frame ++ (b ∷ [])) l
 
 passed : (t : Bool) (refusal : Refusal) (v : Verdict) → cond t (wrong refusal) v ≡ right → (t ≡ false) × (v ≡ right)
 passed true refusal v e = let z : _≡_ {A = ℕ} 0 1 = cc in absurd (omega arith)
@@ -45,28 +50,31 @@ not-false : (t : Bool) → not t ≡ false → t ≡ true
 not-false true e = refl
 not-false false e = absurd (true≢false e)
 
-module _ (run : Run) (frame : List ℕ) (place bit : ℕ) where
-  pub bit-right : stuffDue run frame ≡ false → verdict run frame place bit ≡ right → Next frame bit
+module _ (reading : Reading) (run : Run) (frame : List ℕ) (place bit : ℕ) where
+  pub bit-right : stuffDue run frame ≡ false → verdict reading run frame place bit ≡ right → Next reading frame bit
   unfolding verdict shown
   bit-right due e =
       let more = passed (complete frame) _ _ e in
       let low = passed (ltb 1 bit) _ _ (more .1) in
       let may = passed (not (fits (mustBe frame) bit)) _ _ (rw due at (low .1)) in
       let dlc = passed (dlcWrong (frame ++ (bit ∷ []))) _ _ (may .1) in
+      let check = passed (crcWrong (frame ++ (bit ∷ []))) _ _ (dlc .1) in
       record {
         below = omega (arith, ltb-false 1 bit (low .0));
         more = more .0;
         fitting = not-false (fits (mustBe frame) bit) (may .0);
         dlc = dlc .0;
-        check = passed (crcWrong (frame ++ (bit ∷ []))) _ _ (dlc .1) .0;
+        check = check .0;
+        slot = passed (slotWrong reading (frame ++ (bit ∷ []))) _ _ (check .1) .0;
       }
 
-  pub right-bit : stuffDue run frame ≡ false → Next frame bit → verdict run frame place bit ≡ right
+  pub right-bit : stuffDue run frame ≡ false → Next reading frame bit → verdict reading run frame place bit ≡ right
   unfolding shown
   right-bit due next =
-      frame-bit run frame place bit (next .more) (omega (arith, next .below)) due (next .fitting) ∙ simp (next .dlc, next .check)
+      frame-bit reading run frame place bit (next .more) (omega (arith, next .below)) due (next .fitting)
+      ∙ simp (next .dlc, next .check, next .slot)
 
-  pub stuff-right : stuffDue run frame ≡ true → verdict run frame place bit ≡ right → (bit < 2) × (bit ≡ run .bit → ⊥)
+  pub stuff-right : stuffDue run frame ≡ true → verdict reading run frame place bit ≡ right → (bit < 2) × (bit ≡ run .bit → ⊥)
   unfolding verdict
   stuff-right due e =
       let low = passed (ltb 1 bit) _ _ (passed (complete frame) _ _ e .1) in
@@ -85,5 +93,5 @@ module _ (run : Run) (frame : List ℕ) where
       go true e = sym due ∙ due-no-more e
       go false e = refl
 
-  pub right-stuff : (place : ℕ) → stuffDue run frame ≡ true → verdict run frame place (1 - run .bit) ≡ right
-  right-stuff place due = stuff-bit run frame place (1 - run .bit) (due-more due) (omega arith) due (λ e. omega arith)
+  pub right-stuff : (reading : Reading) (place : ℕ) → stuffDue run frame ≡ true → verdict reading run frame place (1 - run .bit) ≡ right
+  right-stuff reading place due = stuff-bit reading run frame place (1 - run .bit) (due-more due) (omega arith) due (λ e. omega arith)

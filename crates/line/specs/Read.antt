@@ -8,8 +8,17 @@ use Rattle.refusals.specs.declared.Answer.the-variants as answer
 use Rattle.refusals.specs.Table.{Numbers, given, inTable}
 use Rattle.decoding.specs.Decode.{decodeAnswer, payloadOf}
 use Rattle.scanning.specs.Scan.{identifierIn, dlcIn, Scanned, whole, stopped, scanned}
+use Rattle.scanning.specs.declared.AckSlot.the-variants.{Acknowledged, Either}
+use Rattle.scanning.specs.declared.Reading.{Reading}
 use Rattle.line.specs.declared.Line.{Line}
 use Rattle.line.specs.declared.Line.the-variants.{Frame, Refused}
+
+-- how a line from a live bus is read, and one of our own maker [12.18]
+abbrev pub acknowledged : Reading
+acknowledged = record { slot = Acknowledged }
+
+abbrev pub own : Reading
+own = record { slot = Either }
 
 -- the data field among the frame's bits [12.16]
 unfoldable pub fieldIn : List ℕ → List ℕ
@@ -25,16 +34,16 @@ abbrev pub decoded : Scanned → ℕ → Line
 decoded (stopped refusal) room = Refused refusal
 decoded (whole frame) room = withIdentifier (identifierIn frame) (decodeAnswer (fieldIn frame) room)
 
-unfoldable pub readAnswer : List ℕ → ℕ → Line
-readAnswer line room = decoded (scanned line) room
+unfoldable pub readAnswer : Reading → List ℕ → ℕ → Line
+readAnswer reading line room = decoded (scanned reading line) room
 
 -- the bytes that the words of the data field carry; of no matter where the line is refused [12.17]
 abbrev pub carried : Scanned → List ℕ
 carried (stopped refusal) = []
 carried (whole frame) = payloadOf (fieldIn frame)
 
-unfoldable pub payloadIn : List ℕ → List ℕ
-payloadIn line = carried (scanned line)
+unfoldable pub payloadIn : Reading → List ℕ → List ℕ
+payloadIn reading line = carried (scanned reading line)
 
 -- in the document's numbers: the payload's length, and the identifier [7.5]
 abbrev pub lineNumbers : Line → Numbers

@@ -17,6 +17,7 @@ use Rattle.frame.specs.Answers.{makeAnswer, lengthAnswer, boundsAnswer, boundsN
 use Rattle.frame.specs.declared.Bounds.{Bounds}
 use Rattle.frame.specs.declared.Bounds.the-variants as bounds
 use Rattle.frame.proofs.Small.{length-small, make-small, bounds-small}
+use Rattle.scanning.specs.declared.Reading.{Reading}
 use Rattle.line.specs.Read.{readAnswer, lineNumbers}
 use Rattle.line.specs.declared.Line.{Line}
 use Rattle.line.specs.declared.Line.the-variants as line
@@ -67,7 +68,7 @@ bounds-fit identifier size b e =
     let both = bounds-both identifier size b e in
     bounds-given b (both .0) (omega (arith, both .1))
 
-pub read-fits : (line : List ℕ) (room : ℕ) (l : Line) → l ≡ readAnswer line room → Fits (lineNumbers l)
-read-fits line room l e =
-    let few = read-small line room in
+pub read-fits : (reading : Reading) (line : List ℕ) (room : ℕ) (l : Line) → l ≡ readAnswer reading line room → Fits (lineNumbers l)
+read-fits reading line room l e =
+    let few = read-small reading line room in
     line-given l (omega (arith, low lineNumbers e, few .0)) (omega (arith, high lineNumbers e, few .1))

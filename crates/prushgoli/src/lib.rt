@@ -7,10 +7,12 @@ ghost use Rattle.field.specs.Field.{fieldOf};
 ghost use Rattle.field.specs.Encode.{encodeAnswer};
 ghost use Rattle.decoding.specs.Decode.{decodeAnswer, payloadOf};
 ghost use Rattle.frame.specs.Answers.{payloadLine, makeAnswer, lengthAnswer, boundsAnswer, boundsNumbers};
-ghost use Rattle.line.specs.Read.{readAnswer, payloadIn, lineNumbers};
+ghost use Rattle.line.specs.Read.{acknowledged, own, readAnswer, payloadIn, lineNumbers};
 ghost use Rattle.prushgoli.specs.Packing.{pack};
 
 mod packing;
+
+use scanning::Reading;
 
 // Codes a payload into a field.
 #[no_mangle]
@@ -55,11 +57,28 @@ pub extern "C" fn prushgoli_make_frame(identifier: u32, payload: &[u8], line: &m
     packing::answer(frame::make_frame(identifier, payload, line))
 }
 
-// Reads a line: the identifier and the payload of its frame.
+// Reads a line from a live bus: the identifier and the payload of its frame.
 #[no_mangle]
 pub extern "C" fn prushgoli_read_line(line: &[u8], payload: &mut [u8]) -> u64
-    ensures answer { λ r. ⌜ r ≡ pack (lineNumbers (readAnswer (now (line .entry)) (length (now (payload .entry))))) ⌝ }
-    ensures memory { λ _. ⌜ now (payload .exit) ≡ after (lineNumbers (readAnswer (now (line .entry)) (length (now (payload .entry))))) (payloadIn (now (line .entry))) (now (payload .entry)) ⌝ }
+    ensures answer { λ r. ⌜ r ≡ pack (lineNumbers (readAnswer acknowledged (now (line .entry)) (length (now (payload .entry))))) ⌝ }
+    ensures memory { λ _. ⌜ now (payload .exit) ≡ after (lineNumbers (readAnswer acknowledged (now (line .entry)) (length (now (payload .entry))))) (payloadIn acknowledged (now (line .entry))) (now (payload .entry)) ⌝ }
 {
-    packing::line(line::read_line(line, payload))
+    read(line, payload, scanning::ACKNOWLEDGED)
+}
+
+// Reads a line of our own maker, in whose ACK slot 0 or 1 may stand.
+#[no_mangle]
+pub extern "C" fn prushgoli_read_own_line(line: &[u8], payload: &mut [u8]) -> u64
+    ensures answer { λ r. ⌜ r ≡ pack (lineNumbers (readAnswer own (now (line .entry)) (length (now (payload .entry))))) ⌝ }
+    ensures memory { λ _. ⌜ now (payload .exit) ≡ after (lineNumbers (readAnswer own (now (line .entry)) (length (now (payload .entry))))) (payloadIn own (now (line .entry))) (now (payload .entry)) ⌝ }
+{
+    read(line, payload, scanning::OWN)
+}
+
+// One body for both: the reader is nearly a third of the archive's code. Lent anew, the line comes in registers.
+fn read(line: &[u8], payload: &mut [u8], reading: Reading) -> u64
+    ensures answer { λ r. ⌜ r ≡ pack (lineNumbers (readAnswer reading (now (line .entry)) (length (now (payload .entry))))) ⌝ }
+    ensures memory { λ _. ⌜ now (payload .exit) ≡ after (lineNumbers (readAnswer reading (now (line .entry)) (length (now (payload .entry))))) (payloadIn reading (now (line .entry))) (now (payload .entry)) ⌝ }
+{
+    packing::line(line::read(&*line, payload, reading))
 }

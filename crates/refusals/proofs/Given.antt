@@ -5,13 +5,11 @@
 --     Refuses          the same of a refusal, by its number and its place
 --     Answers          of an answer: of a refusal the same, of a length a condition of its own
 --     number-among     so the number of a refusal that is given is one of them
---     number-most      and at most the greatest of them
 use mathlib.Core.Path.{_≡_, refl}
 use mathlib.Core.Bool.{Bool, true, false, cond}
 use mathlib.Core.List.{List, [], _∷_}
 use mathlib.Core.Logic.{inl, inr}
-use Prim.Native.Nat.{ℕ, _≤_, max}
-use native.Mathlib.Omega.{arith}
+use Prim.Native.Nat.{ℕ}
 use lib.Dec.{eqb}
 use borrow.Author.Tests.{eqb-true}
 use Rattle.refusals.specs.Among.{Among}
@@ -49,15 +47,3 @@ given-among (c ∷ order) number place h = go (eqb number (c .0)) refl h (given-
 
 pub number-among : (order : Order) (r : Refusal) → Refuses order r → Among (numbers order) (numberOf r)
 number-among order r h = given-among order (numberOf r) (placeOf r) h
-
-abbrev most : List ℕ → ℕ
-most [] = 0
-most (k ∷ l) = max k (most l)
-
-among-most : (l : List ℕ) (number : ℕ) → Among l number → number ≤ most l
-among-most [] number h = absurd h
-among-most (k ∷ l) number (inl e) = omega arith
-among-most (k ∷ l) number (inr h) = omega (arith, among-most l number h)
-
-pub number-most : (order : Order) (r : Refusal) → Refuses order r → numberOf r ≤ most (numbers order)
-number-most order r h = among-most (numbers order) (numberOf r) (number-among order r h)

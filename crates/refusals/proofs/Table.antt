@@ -15,7 +15,7 @@ use lib.Dec.{T, eqb, ltb, ltb→lt}
 use mir.Facts.{and-yes}
 use Rattle.refusals.specs.Table.{inTable, numberOf, placeOf}
 use Rattle.refusals.specs.declared.Refusal.{Refusal}
-use Rattle.refusals.specs.declared.Refusal.the-variants.{PayloadTooLong, RoomShort, FieldLength, BreakBit, Escape, NoWord, Padding, Identifier, LineByte, StuffBit, LineLength, Crc, FixedBit, Record}
+use Rattle.refusals.specs.declared.Refusal.the-variants.{PayloadTooLong, RoomShort, FieldLength, BreakBit, Escape, NoWord, Padding, Identifier, LineByte, StuffBit, LineLength, Crc, FixedBit, Record, NotAcknowledged}
 
 -- the rows of the table, in any order, with p for each place that varies
 rows : ℕ → List Refusal
@@ -34,6 +34,7 @@ rows p =
     ∷ Crc p
     ∷ FixedBit p
     ∷ Record p
+    ∷ NotAcknowledged p
     ∷ []
 
 -- the first with this number
@@ -67,6 +68,7 @@ in-its-row (LineLength bit) = record { back = refl; small = tt; none = refl }
 in-its-row (Crc bit) = record { back = refl; small = tt; none = refl }
 in-its-row (FixedBit bit) = record { back = refl; small = tt; none = refl }
 in-its-row (Record offset) = record { back = refl; small = tt; none = refl }
+in-its-row (NotAcknowledged bit) = record { back = refl; small = tt; none = refl }
 
 pub refusal-back : (r : Refusal) → refusalOf (numberOf r) (placeOf r) ≡ r
 refusal-back r = in-its-row r .back

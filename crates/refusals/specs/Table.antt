@@ -1,9 +1,9 @@
--- Document 01's table of refusals, and an answer in the document's numbers. Assumes nothing.
+-- The table of refusals, document 01's and behind it document 02's, and an answer in the documents' numbers. Assumes nothing.
 use Prim.Native.Nat.{ℕ}
 use Rattle.refusals.specs.declared.Answer.{Answer}
 use Rattle.refusals.specs.declared.Answer.the-variants.{Length, Refused}
 use Rattle.refusals.specs.declared.Refusal.{Refusal}
-use Rattle.refusals.specs.declared.Refusal.the-variants.{PayloadTooLong, RoomShort, FieldLength, BreakBit, Escape, NoWord, Padding, Identifier, LineByte, StuffBit, LineLength, Crc, FixedBit, Record}
+use Rattle.refusals.specs.declared.Refusal.the-variants.{PayloadTooLong, RoomShort, FieldLength, BreakBit, Escape, NoWord, Padding, Identifier, LineByte, StuffBit, LineLength, Crc, FixedBit, Record, NotAcknowledged}
 
 -- an answer in the document's numbers: that of the refusal, 0 for none; a length, or the refusal's place; what else is answered, or 0 [7.3]
 pub record Numbers : Type 0 where
@@ -36,6 +36,7 @@ inTable (LineLength bit) = 11 at bit
 inTable (Crc bit) = 12 at bit
 inTable (FixedBit bit) = 13 at bit
 inTable (Record offset) = 14 at offset
+inTable (NotAcknowledged bit) = 20 at bit
 
 -- its two columns [8.1, 8.2]
 abbrev pub numberOf : Refusal → ℕ

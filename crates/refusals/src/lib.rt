@@ -1,9 +1,9 @@
-// Document 01's refusals, each with its number and its place, and the answer of coding and decoding.
+// The refusals of documents 01 and 02, each with its number and its place, and the answer of coding and decoding.
 ghost use mathlib.Core.Path.{_≡_};
 ghost use Rattle.refusals.specs.Table.{numberOf, placeOf};
 
-// Why a call is refused, in the order of document 01's table. A variant holds the place where that varies: a bit of the line, the
-// number of a word, an offset in a trace. [8.1, 8.2]
+// Why a call is refused, in the order of document 01's table, then of document 02's requests as they came. A variant holds the place
+// where that varies: a bit of the line, the number of a word, an offset in a trace. [8.1, 8.2]
 pub enum Refusal {
     PayloadTooLong,
     RoomShort,
@@ -19,6 +19,7 @@ pub enum Refusal {
     Crc(usize),
     FixedBit(usize),
     Record(usize),
+    NotAcknowledged(usize),
 }
 
 // A length, or a refusal. The buffer that a result goes to stays beside it. [7.3]
@@ -46,6 +47,7 @@ impl Refusal {
             Refusal::Crc(_) => 12,
             Refusal::FixedBit(_) => 13,
             Refusal::Record(_) => 14,
+            Refusal::NotAcknowledged(_) => 20,
         }
     }
 
@@ -67,6 +69,7 @@ impl Refusal {
             Refusal::Crc(bit) => bit,
             Refusal::FixedBit(bit) => bit,
             Refusal::Record(offset) => offset,
+            Refusal::NotAcknowledged(bit) => bit,
         }
     }
 }

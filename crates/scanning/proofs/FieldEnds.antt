@@ -1,87 +1,66 @@
 -- From row to row. Assumes nothing.
---     row-bits        which bit must stand in a row, as the code asks for it
 --     line-begins     before the first row
 --     begun, field-begins    into a row
 --     Ends, field-ends    where reading stops in it: to the next one, or the line is refused as the definition says
 --     line-longer     behind the last row: the line goes on,
 --     line-read       or it is read
 use mathlib.Core.Path.{_≡_, refl, sym, ap, _∙_, subst}
-use mathlib.Core.Bool.{Bool, true, false, cond, _&&_, _||_}
+use mathlib.Core.Bool.{Bool, true, false, cond, _||_}
 use mathlib.Core.List.{List, [], _++_}
 use Prim.Native.Nat.{ℕ, zero, suc, _+_, _-_, _*_, _%_, _≤_, _<_}
 use native.Mathlib.Omega.{arith}
-use lib.Dec.{eqb, leb, ltb, lit<, T}
+use lib.Dec.{eqb, ltb, lit<}
 use lib.ListN.{length, getD, drop-of-length-le}
 use lib.Seq.{drop-cons}
-use borrow.Author.Tests.{lt-ltb, le-ltb, eq-eqb, ne-eqb, leb-true, ltb-true, ltb-false, eqb-true}
-use mir.Facts.{and-yes}
+use borrow.Author.Tests.{eq-eqb, ne-eqb, ltb-true, ltb-false}
 use Rattle.bits.specs.Rows.{bits, number}
 use Rattle.bits.specs.declared.Run.{Run}
 use Rattle.bits.specs.Stuffing.{nothingSent}
-use Rattle.bits.proofs.Everywhere.{everywhere, everywhere-at}
 use Rattle.refusals.specs.declared.Refusal.the-variants.{FieldLength, LineLength}
 use Rattle.crc.specs.Crc.{crc}
 use Rattle.crc.specs.Dlc.{dataBytes}
-use Rattle.scanning.specs.Scan.{identifierIn, dlcIn, complete, crcStart, crcRight, Verdict, right, shown, stopped, onward, scan, scanned}
+use Rattle.scanning.specs.Scan.{identifierIn, dlcIn, complete, crcStart, crcRight, slotRight, Verdict, right, shown, stopped, onward, scan, scanned}
 use Rattle.scanning.specs.Held.{dataIn}
-use Rattle.scanning.specs.Steps.{widthsOf, mustList, least, headerRead, fieldRead, crcRead, partEnd, fieldEnd, Holds, Reads}
+use Rattle.scanning.specs.Steps.{widthsOf, least, headerRead, fieldRead, crcRead, partEnd, fieldEnd, Holds, Reads}
+use Rattle.scanning.specs.declared.Reading.{Reading}
 use Rattle.scanning.specs.declared.seen.Seen.{Seen}
 use Rattle.scanning.specs.declared.seen.Step.{Step}
 use Rattle.scanning.specs.declared.seen.Step.the-variants.{Next, Refused}
-use Rattle.scanning.proofs.Positions.{widthAt, mustAt, startOf, endOf, end-is, next-start, Stage, before-dlc, dlc, data-bits, crc-bits, ending, stage, first-start, data-start, frame-end}
+use Rattle.scanning.proofs.Positions.{widthAt, startOf, endOf, end-is, next-start, Stage, before-dlc, dlc, data-bits, crc-bits, ack-slot, ending, stage, first-start, data-start, frame-end}
 use Rattle.scanning.proofs.Registers.{Fine, Registers, in-header, in-data, in-crc, behind, crc-length, dlc-known, dlc-read, header-put, field-put, crc-there, identifier-there, data-there}
 use Rattle.scanning.proofs.Verdicts.{bit-too-many, dlc-taken, taken-dlc, length-refused, crc-refused, nothing-shown}
 use Rattle.scanning.proofs.RawBits.{none}
 use Rattle.scanning.proofs.Passing.{rest}
 use Rattle.scanning.proofs.Keeping.{bytes, pending, Told, Between, Within, least-not, missing}
 
--- the rows as the code asks for them: up to the CRC no bit must be 1, behind it none 0
-row-test : ℕ → Bool
-row-test f =
-    let bit = mustAt f in
-    leb bit 2 && cond (ltb 5 f) (ltb 0 bit) (eqb (bit % 2) 0)
-
-row-tested : T (everywhere row-test 9)
-unfolding row-test mustList
-row-tested = tt
-
-pub row-bits : (f : ℕ) → f < 9 →
-    let bit = mustAt f in
-    (bit ≤ 2) × (f ≤ 5 → bit % 2 ≡ 0) × (5 < f → 0 < bit)
-unfolding row-test
-row-bits f h =
-    let bit = mustAt f in
-    let both = and-yes (leb bit 2) (cond (ltb 5 f) (ltb 0 bit) (eqb (bit % 2) 0)) (everywhere-at row-test 9 row-tested f h) in (
-      leb-true _ _ (told (leb bit 2) (both .0)),
-      λ g. eqb-true _ _ (told (eqb (bit % 2) 0) (rw (le-ltb 5 f g) at (both .1))),
-      λ g. ltb-true _ _ (told (ltb 0 bit) (rw (lt-ltb 5 f g) at (both .1))),
-    )
-  where
-    told : (t : Bool) → T t → t ≡ true
-    told true x = refl
-    told false x = absurd x
-
--- behind a row other than DLC and CRC the frame shows nothing
-nothing-behind : (f header field n : ℕ) (frame : List ℕ) (place : ℕ) → f < 9 → (f ≡ 3 → ⊥) → (f ≡ 5 → ⊥)
-    → length frame ≡ endOf f (header % 16) → Registers f header field n frame → shown frame place ≡ right
+-- behind a row other than DLC and CRC the frame shows nothing, where the bit in the ACK slot may stand
+nothing-behind : (reading : Reading) (f header field n : ℕ) (frame : List ℕ) (place : ℕ) → f < 9 → (f ≡ 3 → ⊥) → (f ≡ 5 → ⊥)
+    → (f ≡ 7 → slotRight reading frame ≡ true) → length frame ≡ endOf f (header % 16) → Registers f header field n frame
+    → shown reading frame place ≡ right
 unfolding crcStart
-nothing-behind f header field n frame place h not-dlc not-crc at registers = go (stage f (header % 16) h) registers
+nothing-behind reading f header field n frame place h not-dlc not-crc slot at registers = go (stage f (header % 16) h) registers
   where
     known : 3 < f → dlcIn frame ≡ header % 16
     known = dlc-known f header field n frame registers
 
-    go : Stage f (header % 16) → Registers f header field n frame → shown frame place ≡ right
-    go (before-dlc g e) r = nothing-shown frame place (λ d. absurd (omega (arith, at))) (λ d. absurd (omega (arith, at)))
+    go : Stage f (header % 16) → Registers f header field n frame → shown reading frame place ≡ right
+    go (before-dlc g e) r =
+        nothing-shown reading frame place (λ d. absurd (omega (arith, at))) (λ d. absurd (omega (arith, at))) (λ d. absurd (omega (arith, at)))
     go (dlc g e) r = absurd (not-dlc g)
     go (data-bits g s e) (in-header i d l) = absurd (omega arith)
     go (data-bits g s e) (in-data k i fine d l) =
         let is = known (omega arith) in
-        nothing-shown frame place (λ d. dlc-taken frame (λ one. fine .not-one (sym is ∙ one)) (omega (arith, fine .few, is)))
-        (λ d. absurd (omega (arith, at, is)))
+        nothing-shown reading frame place (λ d. dlc-taken frame (λ one. fine .not-one (sym is ∙ one)) (omega (arith, fine .few, is)))
+        (λ d. absurd (omega (arith, at, is))) (λ d. absurd (omega (arith, at, is)))
     go (data-bits g s e) (in-crc k i put d l) = absurd (omega arith)
     go (data-bits g s e) (behind m i put d l) = absurd (omega arith)
     go (crc-bits g s e) r = absurd (not-crc g)
-    go (ending g s o e) r = nothing-shown frame place (λ d. absurd (omega (arith, at))) (λ d. absurd (omega (arith, at, known (omega arith))))
+    go (ack-slot i e) r =
+        nothing-shown reading frame place (λ d. absurd (omega (arith, at))) (λ d. absurd (omega (arith, at, known (omega arith)))) (λ d. slot i)
+    go (ending g o e) r =
+        let is = known (omega arith) in
+        nothing-shown reading frame place (λ d. absurd (omega (arith, at))) (λ d. absurd (omega (arith, at, is)))
+        (λ d. absurd (e (omega (arith, at, is))))
 
 -- into a row: its bits are all to come
 abbrev pub begun : List ℕ → Seen → ℕ → Seen
@@ -96,18 +75,19 @@ begun line seen end =
       field = seen .field;
     }
 
-pub field-begins : (line : List ℕ) (f : ℕ) (seen : Seen) (run : Run) (frame : List ℕ) (width : ℕ)
-    → f < 9 → width ≡ widthAt f (bytes seen) → Between line f seen run frame
-    → Within line f (begun line seen (seen .place + width)) run width frame
+pub field-begins : (reading : Reading) (line : List ℕ) (f : ℕ) (seen : Seen) (run : Run) (frame : List ℕ) (width : ℕ)
+    → f < 9 → width ≡ widthAt f (bytes seen) → Between reading line f seen run frame
+    → Within reading line f (begun line seen (seen .place + width)) run width frame
 unfolding widthsOf
-field-begins line f seen run frame width h e b =
+field-begins reading line f seen run frame width h e b =
     record {
-      leads = b .leads ∙ ap (λ (v : Verdict). onward v (rest line seen run frame)) (sym (nothing width refl));
+      leads = b .leads ∙ ap (λ (v : Verdict). onward v (rest reading line seen run frame)) (sym (nothing width refl));
       end-is = refl;
       stop-is = refl;
       at-is = end;
       from = omega (arith, b .at-is);
       registers = b .registers;
+      slot = λ i z. absurd (some 7 (lit< tt) z i);
       fresh = b .fresh;
       reached = b .reached;
       behind = b .behind;
@@ -121,17 +101,17 @@ field-begins line f seen run frame width h e b =
         let same : widthAt f (bytes seen) ≡ widthAt k (bytes seen) = ap (λ (j : ℕ). widthAt j (bytes seen)) i in
         omega (arith, e, same)
 
-    nothing : (k : ℕ) → width ≡ k → pending k frame (seen .place) ≡ right
+    nothing : (k : ℕ) → width ≡ k → pending reading k frame (seen .place) ≡ right
     nothing zero d =
-        nothing-behind f (seen .header) (seen .field) (seen .number) frame (seen .place - 1) h (some 3 (lit< tt) d) (some 5 (lit< tt) d)
-        (omega (arith, end)) (b .registers)
+        nothing-behind reading f (seen .header) (seen .field) (seen .number) frame (seen .place - 1) h (some 3 (lit< tt) d) (some 5 (lit< tt) d)
+        (λ i. absurd (some 7 (lit< tt) d i)) (omega (arith, end)) (b .registers)
     nothing (suc k) d = refl
 
 -- before the first row
-pub line-begins : (line : List ℕ)
-    → Between line 0 (record { stop = 0; end = 0; place = 0; raw = 1; number = 0; header = 0; field = 0 }) nothingSent []
+pub line-begins : (reading : Reading) (line : List ℕ)
+    → Between reading line 0 (record { stop = 0; end = 0; place = 0; raw = 1; number = 0; header = 0; field = 0 }) nothingSent []
 unfolding scanned bits
-line-begins line =
+line-begins reading line =
     record {
       leads = refl;
       at-is = sym (first-start 0);
@@ -153,25 +133,25 @@ passed-on f header field n frame not-dlc not-data not-crc (in-crc k g put e l) =
 passed-on f header field n frame not-dlc not-data not-crc (behind m g put e l) = behind m (omega arith) put e l
 
 -- what the end of row f leads to
-abbrev pub Ends : List ℕ → ℕ → Run → List ℕ → Step → Type 0
-Ends line f run frame (Next next) = Between line (f + 1) next run frame
-Ends line f run frame (Refused refusal) = scanned line ≡ stopped refusal
+abbrev pub Ends : Reading → List ℕ → ℕ → Run → List ℕ → Step → Type 0
+Ends reading line f run frame (Next next) = Between reading line (f + 1) next run frame
+Ends reading line f run frame (Refused refusal) = scanned reading line ≡ stopped refusal
 
-module _ (line : List ℕ) (f : ℕ) (seen : Seen) (run : Run) (left : ℕ) (frame : List ℕ) (h : f < 9)
-    (w : Within line f seen run left frame) (told-of : Told seen run frame) (z : left ≡ 0) where
+module _ (reading : Reading) (line : List ℕ) (f : ℕ) (seen : Seen) (run : Run) (left : ℕ) (frame : List ℕ) (h : f < 9)
+    (w : Within reading line f seen run left frame) (told-of : Told seen run frame) (z : left ≡ 0) where
   at : length frame ≡ endOf f (bytes seen)
   at = omega (arith, w .at-is)
 
-  leads : (v : Verdict) → shown frame (seen .place - 1) ≡ v → scanned line ≡ onward v (rest line seen run frame)
+  leads : (v : Verdict) → shown reading frame (seen .place - 1) ≡ v → scanned reading line ≡ onward v (rest reading line seen run frame)
   leads v e =
-      w .leads ∙ ap (λ (k : ℕ). onward (pending k frame (seen .place)) (rest line seen run frame)) z
-      ∙ ap (λ (u : Verdict). onward u (rest line seen run frame)) e
+      w .leads ∙ ap (λ (k : ℕ). onward (pending reading k frame (seen .place)) (rest reading line seen run frame)) z
+      ∙ ap (λ (u : Verdict). onward u (rest reading line seen run frame)) e
 
-  nothing-here : (f ≡ 3 → ⊥) → (f ≡ 5 → ⊥) → shown frame (seen .place - 1) ≡ right
+  nothing-here : (f ≡ 3 → ⊥) → (f ≡ 5 → ⊥) → shown reading frame (seen .place - 1) ≡ right
   nothing-here not-dlc not-crc =
-      nothing-behind f (seen .header) (seen .field) (seen .number) frame (seen .place - 1) h not-dlc not-crc at (w .registers)
+      nothing-behind reading f (seen .header) (seen .field) (seen .number) frame (seen .place - 1) h not-dlc not-crc (λ i. w .slot i z) at (w .registers)
 
-  other-ends : (f ≡ 3 → ⊥) → (f ≡ 4 → ⊥) → (f ≡ 5 → ⊥) → Ends line f run frame (partEnd f seen)
+  other-ends : (f ≡ 3 → ⊥) → (f ≡ 4 → ⊥) → (f ≡ 5 → ⊥) → Ends reading line f run frame (partEnd f seen)
   unfolding partEnd
   other-ends not-dlc not-data not-crc = rw (ne-eqb f 3 not-dlc, ne-eqb f 4 not-data, ne-eqb f 5 not-crc) (record {
     leads = leads right (nothing-here not-dlc not-crc);
@@ -183,14 +163,14 @@ module _ (line : List ℕ) (f : ℕ) (seen : Seen) (run : Run) (left : ℕ) (fra
     behind = w .behind;
   })
 
-  header-ends : f ≡ 3 → endOf f (bytes seen) ≡ 19 → Ends line f run frame (headerRead seen)
+  header-ends : f ≡ 3 → endOf f (bytes seen) ≡ 19 → Ends reading line f run frame (headerRead seen)
   unfolding headerRead crcStart
   header-ends i end = read (w .registers)
     where
       nineteen : length frame ≡ 19
       nineteen = at ∙ end
 
-      read : Registers f (seen .header) (seen .field) (seen .number) frame → Ends line f run frame (headerRead seen)
+      read : Registers f (seen .header) (seen .field) (seen .number) frame → Ends reading line f run frame (headerRead seen)
       read (in-header g e l) = go (eqb (seen .number % 16) 1 || ltb 8 (seen .number % 16)) refl
         where
           n : ℕ
@@ -200,7 +180,7 @@ module _ (line : List ℕ) (f : ℕ) (seen : Seen) (run : Run) (left : ℕ) (fra
           there = dlc-read n frame nineteen e
 
           go : (t : Bool) → (eqb (n % 16) 1 || ltb 8 (n % 16)) ≡ t
-              → Ends line f run frame (cond t (Refused (FieldLength (seen .place - 1))) (Next (record {
+              → Ends reading line f run frame (cond t (Refused (FieldLength (seen .place - 1))) (Next (record {
                 stop = seen .stop;
                 end = seen .end;
                 place = seen .place;
@@ -209,13 +189,13 @@ module _ (line : List ℕ) (f : ℕ) (seen : Seen) (run : Run) (left : ℕ) (fra
                 header = n;
                 field = seen .field;
               })))
-          go true d = leads _ (length-refused frame (seen .place - 1) nineteen (rw there d))
+          go true d = leads _ (length-refused reading frame (seen .place - 1) nineteen (rw there d))
           go false d =
               let taken = taken-dlc frame (rw there d) in
               let fine : Fine n = record { not-one = λ one. taken .0 (there ∙ one); few = omega (arith, taken .1, there) } in
               let next : f + 1 ≡ 4 = omega arith in
               record {
-                leads = leads right (nothing-shown frame (seen .place - 1) (λ x. rw there d) (λ x. absurd (omega (arith, nineteen))));
+                leads = leads right (nothing-shown reading frame (seen .place - 1) (λ x. rw there d) (λ x. absurd (omega (arith, nineteen))) (λ x. absurd (omega (arith, nineteen))));
                 at-is = nineteen ∙ sym (ap (λ (k : ℕ). startOf k (n % 16)) next ∙ data-start (n % 16));
                 registers =
                     subst (λ (k : ℕ). Registers k n (seen .field) 0 frame) (sym next)
@@ -229,14 +209,14 @@ module _ (line : List ℕ) (f : ℕ) (seen : Seen) (run : Run) (left : ℕ) (fra
       read (in-crc k g put e l) = absurd (omega arith)
       read (behind m g put e l) = absurd (omega arith)
 
-  data-ends : f ≡ 4 → endOf f (bytes seen) ≡ 19 + 8 * bytes seen → Ends line f run frame (fieldRead seen)
+  data-ends : f ≡ 4 → endOf f (bytes seen) ≡ 19 + 8 * bytes seen → Ends reading line f run frame (fieldRead seen)
   unfolding fieldRead
   data-ends i end = read (w .registers)
     where
       next : f + 1 ≡ 5
       next = omega arith
 
-      read : Registers f (seen .header) (seen .field) (seen .number) frame → Ends line f run frame (fieldRead seen)
+      read : Registers f (seen .header) (seen .field) (seen .number) frame → Ends reading line f run frame (fieldRead seen)
       read (in-header g e l) = absurd (omega arith)
       read (in-data k g fine e l) =
           record {
@@ -253,11 +233,11 @@ module _ (line : List ℕ) (f : ℕ) (seen : Seen) (run : Run) (left : ℕ) (fra
       read (in-crc k g put e l) = absurd (omega arith)
       read (behind m g put e l) = absurd (omega arith)
 
-  crc-ends : f ≡ 5 → endOf f (bytes seen) ≡ 34 + 8 * bytes seen → Ends line f run frame (crcRead seen)
+  crc-ends : f ≡ 5 → endOf f (bytes seen) ≡ 34 + 8 * bytes seen → Ends reading line f run frame (crcRead seen)
   unfolding crcRead crcStart
   crc-ends i end = read (w .registers)
     where
-      read : Registers f (seen .header) (seen .field) (seen .number) frame → Ends line f run frame (crcRead seen)
+      read : Registers f (seen .header) (seen .field) (seen .number) frame → Ends reading line f run frame (crcRead seen)
       read (in-header g e l) = absurd (omega arith)
       read (in-data k g fine e l) = absurd (omega arith)
       read (behind m g put e l) = absurd (omega arith)
@@ -272,9 +252,9 @@ module _ (line : List ℕ) (f : ℕ) (seen : Seen) (run : Run) (left : ℕ) (fra
           fifteen : k ≡ 15
           fifteen = omega (arith, at, end, crc-length (seen .header) (seen .field) (seen .number) k frame e)
 
-          go : (t : Bool) → crcRight frame ≡ t → Ends line f run frame (crcRead seen)
+          go : (t : Bool) → crcRight frame ≡ t → Ends reading line f run frame (crcRead seen)
           go true d = rw (sym there ∙ d) (record {
-            leads = leads right (nothing-shown frame (seen .place - 1) (λ x. absurd (omega (arith, last))) (λ x. d));
+            leads = leads right (nothing-shown reading frame (seen .place - 1) (λ x. absurd (omega (arith, last))) (λ x. d) (λ x. absurd (omega (arith, last))));
             at-is = at ∙ next-start f (bytes seen);
             registers = behind (bits k (seen .number)) (omega arith) put e (rw fifteen at l);
             told = told-of;
@@ -282,37 +262,38 @@ module _ (line : List ℕ) (f : ℕ) (seen : Seen) (run : Run) (left : ℕ) (fra
             reached = w .reached;
             behind = w .behind;
           })
-          go false d = rw (sym there ∙ d) (leads _ (crc-refused frame (seen .place - 1) last d))
+          go false d = rw (sym there ∙ d) (leads _ (crc-refused reading frame (seen .place - 1) last d))
 
-  part-ends : Ends line f run frame (partEnd f seen)
+  part-ends : Ends reading line f run frame (partEnd f seen)
   unfolding partEnd
   part-ends = go (stage f (bytes seen) h)
     where
-      go : Stage f (bytes seen) → Ends line f run frame (partEnd f seen)
+      go : Stage f (bytes seen) → Ends reading line f run frame (partEnd f seen)
       go (before-dlc g e) = other-ends (λ d. omega arith) (λ d. omega arith) (λ d. omega arith)
       go (dlc g e) = rw (eq-eqb f 3 g) (header-ends g e)
       go (data-bits g s e) = rw (ne-eqb f 3 (λ d. omega arith), eq-eqb f 4 g) (data-ends g e)
       go (crc-bits g s e) = rw (ne-eqb f 3 (λ d. omega arith), ne-eqb f 4 (λ d. omega arith), eq-eqb f 5 g) (crc-ends g e)
-      go (ending g s o e) = other-ends (λ d. omega arith) (λ d. omega arith) (λ d. omega arith)
+      go (ack-slot i e) = other-ends (λ d. omega arith) (λ d. omega arith) (λ d. omega arith)
+      go (ending g o e) = other-ends (λ d. omega arith) (λ d. omega arith) (λ d. omega arith)
 
 -- where reading stops in the row
-pub field-ends : (line : List ℕ) (f : ℕ) (seen : Seen) (run : Run) (left : ℕ) (frame : List ℕ) → f < 9 → Within line f seen run left frame
-    → Told seen run frame → seen .stop ≤ seen .place → Ends line f run frame (fieldEnd f seen)
+pub field-ends : (reading : Reading) (line : List ℕ) (f : ℕ) (seen : Seen) (run : Run) (left : ℕ) (frame : List ℕ) → f < 9 → Within reading line f seen run left frame
+    → Told seen run frame → seen .stop ≤ seen .place → Ends reading line f run frame (fieldEnd f seen)
 unfolding fieldEnd
-field-ends line f seen run left frame h w told over = go (ltb (seen .place) (seen .end)) refl
+field-ends reading line f seen run left frame h w told over = go (ltb (seen .place) (seen .end)) refl
   where
     go : (t : Bool) → ltb (seen .place) (seen .end) ≡ t
-        → Ends line f run frame (cond t (Refused (LineLength (seen .place))) (partEnd f seen))
+        → Ends reading line f run frame (cond t (Refused (LineLength (seen .place))) (partEnd f seen))
     go true d =
         let before = ltb-true (seen .place) (seen .end) d in
-        missing line f seen run left frame h w (omega (arith, w .end-is))
+        missing reading line f seen run left frame h w (omega (arith, w .end-is))
         (least-not (seen .end) (length line) (seen .place) (rw (w .stop-is) at over) before)
     go false d =
-        part-ends line f seen run left frame h w told (omega (arith, w .end-is, ltb-false (seen .place) (seen .end) d))
+        part-ends reading line f seen run left frame h w told (omega (arith, w .end-is, ltb-false (seen .place) (seen .end) d))
 
 -- ---- behind the last row
 
-module _ (line : List ℕ) (seen : Seen) (run : Run) (frame : List ℕ) (b : Between line 9 seen run frame) where
+module _ (reading : Reading) (line : List ℕ) (seen : Seen) (run : Run) (frame : List ℕ) (b : Between reading line 9 seen run frame) where
   known : dlcIn frame ≡ bytes seen
   known = dlc-known 9 (seen .header) (seen .field) (seen .number) frame (b .registers) (lit< tt)
 
@@ -320,16 +301,16 @@ module _ (line : List ℕ) (seen : Seen) (run : Run) (frame : List ℕ) (b : Bet
   unfolding complete crcStart
   ended = eq-eqb (length frame) (19 + 8 * dlcIn frame + 25) (omega (arith, b .at-is, frame-end (bytes seen), known))
 
-  pub line-longer : seen .place < length line → scanned line ≡ stopped (LineLength (seen .place))
+  pub line-longer : seen .place < length line → scanned reading line ≡ stopped (LineLength (seen .place))
   unfolding scan
   line-longer h =
-      b .leads ∙ ap (scan run frame (seen .place)) (drop-cons line (seen .place) 0 h)
-      ∙ rw (bit-too-many run frame (seen .place) (getD line (seen .place) 0) ended) refl
+      b .leads ∙ ap (scan reading run frame (seen .place)) (drop-cons line (seen .place) 0 h)
+      ∙ rw (bit-too-many reading run frame (seen .place) (getD line (seen .place) 0) ended) refl
 
-  pub line-read : length line ≤ seen .place → Reads (Next seen) (scanned line)
+  pub line-read : length line ≤ seen .place → Reads (Next seen) (scanned reading line)
   unfolding scan
   line-read h =
-      (frame, b .leads ∙ ap (scan run frame (seen .place)) (drop-of-length-le line h) ∙ rw ended refl, holds (b .registers))
+      (frame, b .leads ∙ ap (scan reading run frame (seen .place)) (drop-of-length-le line h) ∙ rw ended refl, holds (b .registers))
     where
       holds : Registers 9 (seen .header) (seen .field) (seen .number) frame → Holds seen frame
       holds (in-header g e l) = absurd (omega arith)

@@ -3,6 +3,7 @@ pub mod Fitting
 pub mod Partial
 pub mod StuffDue
 pub mod Positions
+pub mod Rows
 pub mod RawBits
 pub mod Registers
 pub mod LineBit

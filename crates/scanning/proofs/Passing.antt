@@ -19,6 +19,7 @@ use Rattle.bits.specs.Stuffing.{counted}
 use Rattle.refusals.specs.declared.Refusal.the-variants.{LineByte, StuffBit, LineLength}
 use Rattle.scanning.specs.Scan.{complete, crcStart, stuffDue, Verdict, right, verdict, runWith, frameWith, Scanned, stopped, onward, scan, scanned}
 use Rattle.scanning.specs.Steps.{bitAt, behindStuffBit, dueIn, stuffBit, passed}
+use Rattle.scanning.specs.declared.Reading.{Reading}
 use Rattle.scanning.specs.declared.seen.Seen.{Seen}
 use Rattle.scanning.specs.declared.seen.Step.{Step}
 use Rattle.scanning.specs.declared.seen.Step.the-variants.{Next, Refused}
@@ -26,43 +27,43 @@ use Rattle.scanning.proofs.RawBits.{Tells, five-told, bit-told, told-st
 use Rattle.scanning.proofs.StuffDue.{due-within}
 use Rattle.scanning.proofs.Verdicts.{byte-above-1, sixth-bit, stuff-bit}
 
-abbrev pub rest : List ℕ → Seen → Run → List ℕ → Scanned
-rest line seen run frame = scan run frame (seen .place) (drop (seen .place) line)
+abbrev pub rest : Reading → List ℕ → Seen → Run → List ℕ → Scanned
+rest reading line seen run frame = scan reading run frame (seen .place) (drop (seen .place) line)
 
 -- a bit of the frame follows, before which none is due; the raw bits that tell the run
-pub record Stuffed (line : List ℕ) (seen : Seen) (run : Run) (frame : List ℕ) : Type 0 where
-  pub leads : scanned line ≡ scan run frame (seen .place + 1) (drop (seen .place + 1) line)
+pub record Stuffed (reading : Reading) (line : List ℕ) (seen : Seen) (run : Run) (frame : List ℕ) : Type 0 where
+  pub leads : scanned reading line ≡ scan reading run frame (seen .place + 1) (drop (seen .place + 1) line)
   pub inside : seen .place + 1 < length line
   pub told : Tells (1 + seen .raw % 2) run
   pub single : run .count ≡ 1
   pub none-due : stuffDue run frame ≡ false
 
 -- what is to hold of the run and of what is seen behind it
-abbrev pub Passes : List ℕ → (Run → Seen → Type 0) → Step → Type 0
-Passes line P (Next next) = (run : Run) × P run next
-Passes line P (Refused refusal) = scanned line ≡ stopped refusal
+abbrev pub Passes : Reading → List ℕ → (Run → Seen → Type 0) → Step → Type 0
+Passes reading line P (Next next) = (run : Run) × P run next
+Passes reading line P (Refused refusal) = scanned reading line ≡ stopped refusal
 
-module _ (line : List ℕ) (seen : Seen) (run : Run) (frame : List ℕ)
-    (leads : scanned line ≡ rest line seen run frame) (begun : complete frame ≡ false) where
+module _ (reading : Reading) (line : List ℕ) (seen : Seen) (run : Run) (frame : List ℕ)
+    (leads : scanned reading line ≡ rest reading line seen run frame) (begun : complete frame ≡ false) where
   abbrev b : ℕ
   b = bitAt line seen
 
-  ends : (r : Run) (place : ℕ) → scan r frame place [] ≡ stopped (LineLength place)
+  ends : (r : Run) (place : ℕ) → scan reading r frame place [] ≡ stopped (LineLength place)
   unfolding scan
   ends r place = rw begun refl
 
-  pub missing : length line ≤ seen .place → scanned line ≡ stopped (LineLength (seen .place))
-  missing e = leads ∙ ap (scan run frame (seen .place)) (drop-of-length-le line e) ∙ ends run (seen .place)
+  pub missing : length line ≤ seen .place → scanned reading line ≡ stopped (LineLength (seen .place))
+  missing e = leads ∙ ap (scan reading run frame (seen .place)) (drop-of-length-le line e) ∙ ends run (seen .place)
 
   module _ (inside : seen .place < length line) where
-    pub went : (v : Verdict) → verdict run frame (seen .place) b ≡ v
-        → scanned line ≡ onward v (scan (runWith run b) (frameWith run frame b) (seen .place + 1) (drop (seen .place + 1) line))
+    pub went : (v : Verdict) → verdict reading run frame (seen .place) b ≡ v
+        → scanned reading line ≡ onward v (scan reading (runWith run b) (frameWith run frame b) (seen .place + 1) (drop (seen .place + 1) line))
     unfolding scan
     went v d =
         let here : drop (seen .place) line ≡ b ∷ drop (seen .place + 1) line =
         drop-cons line (seen .place) 0 inside ∙ ap (λ (k : ℕ). b ∷ drop k line) (sym (add-one (seen .place))) in
-        leads ∙ ap (scan run frame (seen .place)) here
-        ∙ ap (λ (u : Verdict). onward u (scan (runWith run b) (frameWith run frame b) (seen .place + 1) (drop (seen .place + 1) line))) d
+        leads ∙ ap (scan reading run frame (seen .place)) here
+        ∙ ap (λ (u : Verdict). onward u (scan reading (runWith run b) (frameWith run frame b) (seen .place + 1) (drop (seen .place + 1) line))) d
 
     -- the raw bits tell the run, and a stuff bit may still come
     module _ (tells : Tells (seen .raw) run) (within : length frame ≤ crcStart frame + 15) where
@@ -76,14 +77,14 @@ module _ (line : List ℕ) (seen : Seen) (run : Run) (frame : List ℕ)
         five = eqb-true (run .count) 5 (sym (due-within run frame within) ∙ due)
 
         module _ (bit : b ≤ 1) (other : b ≡ run .bit → ⊥) where
-          onto : scanned line ≡ scan (runWith run b) frame (seen .place + 1) (drop (seen .place + 1) line)
+          onto : scanned reading line ≡ scan reading (runWith run b) frame (seen .place + 1) (drop (seen .place + 1) line)
           unfolding frameWith
-          onto = went right (stuff-bit run frame (seen .place) b begun bit due other) ∙ rw due refl
+          onto = went right (stuff-bit reading run frame (seen .place) b begun bit due other) ∙ rw due refl
 
           one : counted run b ≡ 1
           one = simp (ne-eqb b (run .bit) other)
 
-          behind-it : seen .place + 1 < length line → Stuffed line seen (runWith run b) frame
+          behind-it : seen .place + 1 < length line → Stuffed reading line seen (runWith run b) frame
           unfolding runWith
           behind-it more =
               record {
@@ -94,8 +95,8 @@ module _ (line : List ℕ) (seen : Seen) (run : Run) (frame : List ℕ)
                 none-due = due-within (runWith run b) frame within ∙ rw one refl;
               }
 
-        module _ (raw : ℕ) (P : Run → Seen → Type 0) (behind : (r : Run) → Stuffed line seen r frame → P r (behindStuffBit raw line seen)) where
-          stuff-goes : Passes line P (stuffBit raw line seen)
+        module _ (raw : ℕ) (P : Run → Seen → Type 0) (behind : (r : Run) → Stuffed reading line seen r frame → P r (behindStuffBit raw line seen)) where
+          stuff-goes : Passes reading line P (stuffBit raw line seen)
           unfolding stuffBit
           stuff-goes = byte (ltb 1 b) refl
             where
@@ -103,34 +104,34 @@ module _ (line : List ℕ) (seen : Seen) (run : Run) (frame : List ℕ)
               last = bit-told (seen .raw) run tells five
 
               follows : b ≤ 1 → (b ≡ run .bit → ⊥) → (t : Bool) → leb (length line) (seen .place + 1) ≡ t
-                  → Passes line P (cond t (Refused (LineLength (seen .place + 1))) (Next (behindStuffBit raw line seen)))
+                  → Passes reading line P (cond t (Refused (LineLength (seen .place + 1))) (Next (behindStuffBit raw line seen)))
               follows bit other true d =
-                  onto bit other ∙ ap (scan (runWith run b) frame (seen .place + 1)) (drop-of-length-le line (leb-true _ _ d))
+                  onto bit other ∙ ap (scan reading (runWith run b) frame (seen .place + 1)) (drop-of-length-le line (leb-true _ _ d))
                   ∙ ends (runWith run b) (seen .place + 1)
               follows bit other false d = (runWith run b, behind _ (behind-it bit other (leb-false _ _ d)))
 
               sixth : b ≤ 1 → (t : Bool) → eqb b (seen .raw % 2) ≡ t
-                  → Passes line P
+                  → Passes reading line P
                   (cond t (Refused (StuffBit (seen .place)))
                   (cond (leb (length line) (seen .place + 1)) (Refused (LineLength (seen .place + 1))) (Next (behindStuffBit raw line seen))))
-              sixth bit true d = went _ (sixth-bit run frame (seen .place) b begun bit due (eqb-true _ _ d ∙ sym last))
+              sixth bit true d = went _ (sixth-bit reading run frame (seen .place) b begun bit due (eqb-true _ _ d ∙ sym last))
               sixth bit false d = follows bit (λ e. eqb-false _ _ d (e ∙ last)) (leb (length line) (seen .place + 1)) refl
 
               byte : (t : Bool) → ltb 1 b ≡ t
-                  → Passes line P
+                  → Passes reading line P
                   (cond t (Refused (LineByte (seen .place)))
                   (cond (eqb b (seen .raw % 2)) (Refused (StuffBit (seen .place)))
                   (cond (leb (length line) (seen .place + 1)) (Refused (LineLength (seen .place + 1))) (Next (behindStuffBit raw line seen)))))
-              byte true d = went _ (byte-above-1 run frame (seen .place) b begun (ltb-true _ _ d))
+              byte true d = went _ (byte-above-1 reading run frame (seen .place) b begun (ltb-true _ _ d))
               byte false d = sixth (ltb-false _ _ d) (eqb b (seen .raw % 2)) refl
 
       -- ---- or none
 
       pub pass-goes : (raw : ℕ) (P : Run → Seen → Type 0) → (stuffDue run frame ≡ false → P run seen)
-          → ((r : Run) → Stuffed line seen r frame → P r (behindStuffBit raw line seen)) → Passes line P (passed raw line seen)
+          → ((r : Run) → Stuffed reading line seen r frame → P r (behindStuffBit raw line seen)) → Passes reading line P (passed raw line seen)
       unfolding passed
       pass-goes raw P as-it-was behind = go (dueIn (seen .raw)) refl
         where
-          go : (t : Bool) → dueIn (seen .raw) ≡ t → Passes line P (cond t (stuffBit raw line seen) (Next seen))
+          go : (t : Bool) → dueIn (seen .raw) ≡ t → Passes reading line P (cond t (stuffBit raw line seen) (Next seen))
           go true d = stuff-goes (due-told ∙ d) raw P behind
           go false d = (run, as-it-was (due-told ∙ d))

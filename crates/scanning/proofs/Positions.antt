@@ -1,12 +1,11 @@
 -- Where the rows stand that the code reads a frame by. Assumes nothing.
---     widthAt, mustAt   how many bits field f has, and the bit that each of them must be
+--     widthAt, before   how many bits field f has, and how many stand before it
 --     startOf, endOf, end-is    the positions of field f's first bit and of the one behind its last, where the frame has n data bytes
 --     next-start        a field starts where the one before it ends
---     end-some, header-end, data-end, crc-end, end-within    how far fields reach
---     first-start, data-start, data-from, ending-from, slot-from, frame-end    and from where on
+--     end-some, header-end, data-end, crc-end, slot-end, end-within    how far fields reach
+--     first-start, data-start, data-from, ending-from, slot-from, last-from, frame-end    and from where on
 --     Stage, stage      which part of the frame a field is in
 --     early-or-known    where the DLC is not known yet, nothing hangs on it
---     must-is           the bit that must stand next is the field's
 --     to-the-crc, behind-the-crc    the frame's bits do not reach behind the CRC, or they do
 --     not-complete      in a field the frame is not complete
 use mathlib.Core.Path.{_≡_, refl, sym, ap, _∙_, subst}
@@ -14,27 +13,21 @@ use mathlib.Core.Bool.{Bool, true, false}
 use mathlib.Core.List.{List, [], _∷_}
 use mathlib.Core.Logic.{_⊎_, inl, inr}
 use Prim.Native.Nat.{ℕ, zero, suc, _+_, _-_, _*_, _≤_, _<_}
-use native.Mathlib.Nat.{zero-add, suc-add}
+use native.Mathlib.Nat.{suc-add}
 use native.Mathlib.Numerals.{add-one}
 use native.Mathlib.Omega.{arith}
 use lib.Dec.{eqb, ltb}
-use lib.ListN.{length, getD, replicate, length-replicate, getD-replicate, List·getD-append}
-use lib.Seq.{getD-append-add}
+use lib.ListN.{length, getD}
 use borrow.Author.Tests.{ne-eqb, ltb-true, ltb-false, eqb-true, eqb-false}
-use Rattle.scanning.specs.Form.{either, form}
-use Rattle.scanning.specs.Scan.{dlcIn, crcStart, complete, mustBe}
-use Rattle.scanning.specs.Steps.{widthsOf, mustList, formOf}
-use Rattle.scanning.proofs.Partial.{must-early}
+use Rattle.scanning.specs.Scan.{dlcIn, crcStart, complete}
+use Rattle.scanning.specs.Steps.{widthsOf}
 
--- how many bits field f has, and the bit that each of them must be
+-- how many bits field f has
 abbrev pub widthAt : ℕ → ℕ → ℕ
 widthAt f n = getD (widthsOf n) f 0
 
-abbrev pub mustAt : ℕ → ℕ
-mustAt f = getD mustList f 0
-
 -- how many bits stand before the field at f
-abbrev before : ℕ → List ℕ → ℕ
+abbrev pub before : ℕ → List ℕ → ℕ
 before zero l = 0
 before (suc f) [] = 0
 before (suc f) (x ∷ l) = x + before f l
@@ -50,7 +43,7 @@ before-more zero k l = omega arith
 before-more (suc f) k [] = omega arith
 before-more (suc f) k (x ∷ l) = rw (suc-add f k) (omega (arith, before-more f k l))
 
-pub startOf : ℕ → ℕ → ℕ
+unfoldable pub startOf : ℕ → ℕ → ℕ
 startOf f n = before f (widthsOf n)
 
 pub endOf : ℕ → ℕ → ℕ
@@ -99,6 +92,10 @@ slot-start : (n : ℕ) → startOf 7 n ≡ 35 + 8 * n
 unfolding startOf widthsOf
 slot-start n = omega arith
 
+last-start : (n : ℕ) → startOf 8 n ≡ 36 + 8 * n
+unfolding startOf widthsOf
+last-start n = omega arith
+
 pub frame-end : (n : ℕ) → startOf 9 n ≡ 44 + 8 * n
 unfolding startOf widthsOf
 frame-end n = omega arith
@@ -109,6 +106,9 @@ data-from f n h = omega (arith, later 4 f n h, data-start n)
 
 pub slot-from : (f n : ℕ) → 6 < f → 35 + 8 * n ≤ startOf f n
 slot-from f n h = omega (arith, later 7 f n h, slot-start n)
+
+pub last-from : (f n : ℕ) → 7 < f → 36 + 8 * n ≤ startOf f n
+last-from f n h = omega (arith, later 8 f n h, last-start n)
 
 pub ending-from : (f n : ℕ) → 5 < f → 34 + 8 * n ≤ startOf f n
 ending-from f n h = omega (arith, later 6 f n h, ending-start n)
@@ -133,17 +133,22 @@ delimiter-end : (f n : ℕ) → f ≤ 6 → endOf f n ≤ 35 + 8 * n
 unfolding endOf
 delimiter-end f n h = omega (arith, later (suc f) 7 n (omega arith), slot-start n)
 
+pub slot-end : (f n : ℕ) → f ≤ 7 → endOf f n ≤ 36 + 8 * n
+unfolding endOf
+slot-end f n h = omega (arith, later (suc f) 8 n (omega arith), last-start n)
+
 pub end-within : (f n : ℕ) → f < 9 → endOf f n ≤ 44 + 8 * n
 unfolding endOf
 end-within f n h = omega (arith, later (suc f) 9 n h, frame-end n)
 
--- header fields but the DLC, the DLC, data, CRC, and what is never stuffed
+-- header fields but the DLC, the DLC, data, CRC, the ACK slot, and the other bits that are never stuffed
 pub data Stage (f n : ℕ) : Type 0 where
   before-dlc : f < 3 → endOf f n ≤ 15 → Stage f n
   dlc : f ≡ 3 → endOf f n ≡ 19 → Stage f n
   data-bits : f ≡ 4 → startOf f n ≡ 19 → endOf f n ≡ 19 + 8 * n → Stage f n
   crc-bits : f ≡ 5 → startOf f n ≡ 19 + 8 * n → endOf f n ≡ 34 + 8 * n → Stage f n
-  ending : 5 < f → 34 + 8 * n ≤ startOf f n → 34 + 8 * n < endOf f n → endOf f n ≤ 44 + 8 * n → Stage f n
+  ack-slot : f ≡ 7 → endOf f n ≡ 36 + 8 * n → Stage f n
+  ending : 5 < f → 34 + 8 * n < endOf f n → (endOf f n ≡ 36 + 8 * n → ⊥) → Stage f n
 
 pub stage : (f n : ℕ) → f < 9 → Stage f n
 unfolding endOf
@@ -155,12 +160,25 @@ stage f n h = first (ltb f 3) refl
     ends : (k : ℕ) → f ≡ k → startOf (suc f) n ≡ startOf (suc k) n
     ends k i = ap (λ (j : ℕ). startOf (suc j) n) i
 
+    -- the CRC delimiter, or what stands behind the ACK slot
+    sixth : (t : Bool) → ltb f 7 ≡ t → 5 < f → (f ≡ 7 → ⊥) → Stage f n
+    sixth true e g not-slot =
+        let i = ltb-true f 7 e in
+        let end : startOf (suc f) n ≡ 35 + 8 * n = ends 6 (omega arith) ∙ slot-start n in
+        ending g (omega (arith, end)) (λ d. omega (arith, end, d))
+    sixth false e g not-slot =
+        let end = later 9 (suc f) n (omega (arith, ltb-false f 7 e)) in
+        ending g (omega (arith, end, frame-end n)) (λ d. omega (arith, end, frame-end n, d))
+
+    fifth : (t : Bool) → eqb f 7 ≡ t → 5 < f → Stage f n
+    fifth true e g = let i = eqb-true f 7 e in ack-slot i (ends 7 i ∙ last-start n)
+    fifth false e g = sixth (ltb f 7) refl g (eqb-false f 7 e)
+
     fourth : (t : Bool) → eqb f 5 ≡ t → 5 ≤ f → Stage f n
     fourth true e g = let i = eqb-true f 5 e in crc-bits i (starts 5 i ∙ crc-start n) (ends 5 i ∙ ending-start n)
     fourth false e g =
         let i = eqb-false f 5 e in
-        let over : 5 < f = omega arith in
-        ending over (ending-from f n over) (omega (arith, later 7 (suc f) n (omega arith), slot-start n)) (end-within f n h)
+        fifth (eqb f 7) refl (omega arith)
 
     third : (t : Bool) → eqb f 4 ≡ t → 4 ≤ f → Stage f n
     third true e g = let i = eqb-true f 4 e in data-bits i (starts 4 i ∙ data-start n) (ends 4 i ∙ crc-start n)
@@ -173,24 +191,6 @@ stage f n h = first (ltb f 3) refl
     first : (t : Bool) → ltb f 3 ≡ t → Stage f n
     first true e = let i = ltb-true f 3 e in before-dlc i (omega (arith, later (suc f) 3 n i, dlc-start n))
     first false e = second (eqb f 3) refl (ltb-false f 3 e)
-
--- the bit of a field stands at each of its positions
-form-at : (f : ℕ) (l m : List ℕ) (i : ℕ) → f < length m → i < getD l f 0 → getD (formOf l m) (before f l + i) either ≡ getD m f 0
-unfolding formOf
-form-at f l [] i g h = absurd (omega arith)
-form-at zero [] (b ∷ m) i g h = absurd (omega arith)
-form-at zero (x ∷ l) (b ∷ m) i g h =
-    let inside : i < length (replicate x b) = rw (length-replicate x b) h in
-    rw (zero-add, List·getD-append (replicate x b) (formOf l m) either i inside) (getD-replicate x i b either h)
-form-at (suc f) [] (b ∷ m) i g h = absurd (omega arith)
-form-at (suc f) (x ∷ l) (b ∷ m) i g h =
-    let at : x + before f l + i ≡ length (replicate x b) + (before f l + i) = rw (length-replicate x b) (omega arith) in
-    rw (at, getD-append-add (replicate x b) (formOf l m) (before f l + i) either) (form-at f l m i (omega arith) h)
-
--- the fields stand for the form
-fields-form : (n : ℕ) → formOf (widthsOf n) mustList ≡ form n
-unfolding form formOf widthsOf mustList
-fields-form n = refl
 
 -- a frame that reaches into field f, or up to its end; the DLC is known behind the header
 module _ (f n : ℕ) (frame : List ℕ) (known : 3 < f → dlcIn frame ≡ n) where
@@ -214,23 +214,6 @@ module _ (f n : ℕ) (frame : List ℕ) (known : 3 < f → dlcIn frame ≡ n) wh
   behind-the-crc over g = omega (arith, known (omega arith))
 
   module _ (from : startOf f n ≤ length frame) (to : length frame < endOf f n) where
-    pub must-is : f < 9 → mustBe frame ≡ mustAt f
-    unfolding mustBe startOf mustList
-    must-is h = same (early-or-known to) ∙ ap (λ (l : List ℕ). getD l p either) (sym (fields-form n)) ∙ at
-      where
-        p : ℕ
-        p = length frame
-
-        same : (p < 19) ⊎ (dlcIn frame ≡ n) → getD (form (dlcIn frame)) p either ≡ getD (form n) p either
-        same (inl e) = must-early (dlcIn frame) p e ∙ sym (must-early n p e)
-        same (inr e) = ap (λ (k : ℕ). getD (form k) p either) e
-
-        at : getD (formOf (widthsOf n) mustList) p either ≡ mustAt f
-        at =
-            let sum : startOf f n + (p - startOf f n) ≡ p = omega (arith, from) in
-            subst (λ (k : ℕ). getD (formOf (widthsOf n) mustList) k either ≡ mustAt f) sum
-            (form-at f (widthsOf n) mustList (p - startOf f n) h (omega (arith, from, to, end-is f n)))
-
     pub not-complete : f < 9 → complete frame ≡ false
     unfolding complete crcStart
     not-complete h = ne-eqb (length frame) (19 + 8 * dlcIn frame + 25) (λ e. go (early-or-known to) e)

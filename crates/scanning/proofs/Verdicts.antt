@@ -8,9 +8,10 @@
 --     dlc-taken, taken-dlc    a DLC is taken exactly when it is not 1 and at most 8
 --     length-refused   3, with the fourth DLC bit
 --     crc-refused      12, with the last CRC bit
---     nothing-shown    every other bit is right, and so are these two where DLC and CRC are
-use mathlib.Core.Path.{_≡_, refl}
-use mathlib.Core.Bool.{Bool, true, false, cond, not, _&&_, _||_, true≢false}
+--     slot-refused     20, in the ACK slot
+--     nothing-shown    every other bit is right, and so are these three where DLC, CRC and ACK slot are
+use mathlib.Core.Path.{_≡_, refl, ap}
+use mathlib.Core.Bool.{Bool, true, false, not, _&&_, _||_, true≢false}
 use mathlib.Core.List.{List, [], _∷_, _++_}
 use Prim.Native.Nat.{ℕ, _+_, _*_, _≤_, _<_}
 use native.Mathlib.Omega.{arith}
@@ -18,35 +19,36 @@ use lib.Dec.{eqb, ltb}
 use lib.ListN.{length}
 use borrow.Author.Tests.{lt-ltb, le-ltb, eq-eqb, ne-eqb, ltb-false, eqb-true, eqb-false}
 use Rattle.bits.specs.declared.Run.{Run}
-use Rattle.refusals.specs.declared.Refusal.the-variants.{FieldLength, LineByte, StuffBit, LineLength, Crc, FixedBit}
+use Rattle.refusals.specs.declared.Refusal.the-variants.{FieldLength, LineByte, StuffBit, LineLength, Crc, FixedBit, NotAcknowledged}
 use Rattle.scanning.specs.Form.{fits}
-use Rattle.scanning.specs.Scan.{dlcIn, crcStart, complete, stuffDue, mustBe, dlcRefused, crcRight, right, wrong, shown, verdict}
+use Rattle.scanning.specs.Scan.{dlcIn, crcStart, complete, stuffDue, mustBe, dlcRefused, crcRight, slotRight, right, wrong, shown, verdict}
+use Rattle.scanning.specs.declared.Reading.{Reading}
 
 -- the bit b, in the place where the frame's bits so far and the run are these
-module _ (run : Run) (frame : List ℕ) (place b : ℕ) where
-  pub bit-too-many : complete frame ≡ true → verdict run frame place b ≡ wrong (LineLength place)
+module _ (reading : Reading) (run : Run) (frame : List ℕ) (place b : ℕ) where
+  pub bit-too-many : complete frame ≡ true → verdict reading run frame place b ≡ wrong (LineLength place)
   unfolding verdict
   bit-too-many e = simp e
 
   module _ (begun : complete frame ≡ false) where
-    pub byte-above-1 : 1 < b → verdict run frame place b ≡ wrong (LineByte place)
+    pub byte-above-1 : 1 < b → verdict reading run frame place b ≡ wrong (LineByte place)
     unfolding verdict
     byte-above-1 h = simp (begun, lt-ltb 1 b h)
 
     module _ (bit : b ≤ 1) where
-      pub sixth-bit : stuffDue run frame ≡ true → b ≡ run .bit → verdict run frame place b ≡ wrong (StuffBit place)
+      pub sixth-bit : stuffDue run frame ≡ true → b ≡ run .bit → verdict reading run frame place b ≡ wrong (StuffBit place)
       unfolding verdict
       sixth-bit due e = simp (begun, le-ltb 1 b bit, due, eq-eqb b (run .bit) e)
 
-      pub stuff-bit : stuffDue run frame ≡ true → (b ≡ run .bit → ⊥) → verdict run frame place b ≡ right
+      pub stuff-bit : stuffDue run frame ≡ true → (b ≡ run .bit → ⊥) → verdict reading run frame place b ≡ right
       unfolding verdict
       stuff-bit due n = simp (begun, le-ltb 1 b bit, due, ne-eqb b (run .bit) n)
 
-      pub fixed-bit : stuffDue run frame ≡ false → fits (mustBe frame) b ≡ false → verdict run frame place b ≡ wrong (FixedBit place)
+      pub fixed-bit : stuffDue run frame ≡ false → fits (mustBe frame) b ≡ false → verdict reading run frame place b ≡ wrong (FixedBit place)
       unfolding verdict
       fixed-bit due e = simp (begun, le-ltb 1 b bit, due, e)
 
-      pub frame-bit : stuffDue run frame ≡ false → fits (mustBe frame) b ≡ true → verdict run frame place b ≡ shown (frame ++ (b ∷ [])) place
+      pub frame-bit : stuffDue run frame ≡ false → fits (mustBe frame) b ≡ true → verdict reading run frame place b ≡ shown reading (frame ++ (b ∷ [])) place
       unfolding verdict
       frame-bit due e = simp (begun, le-ltb 1 b bit, due, e)
 
@@ -64,29 +66,39 @@ taken-dlc frame e =
     neither false t d = (refl, d)
 
 -- the frame's bits, the one at this place the last of them
-module _ (frame : List ℕ) (place : ℕ) where
-  pub length-refused : length frame ≡ 19 → dlcRefused frame ≡ true → shown frame place ≡ wrong (FieldLength place)
+module _ (reading : Reading) (frame : List ℕ) (place : ℕ) where
+  pub length-refused : length frame ≡ 19 → dlcRefused frame ≡ true → shown reading frame place ≡ wrong (FieldLength place)
   unfolding shown
   length-refused e r = simp (eq-eqb (length frame) 19 e, r)
 
-  pub crc-refused : length frame ≡ crcStart frame + 15 → crcRight frame ≡ false → shown frame place ≡ wrong (Crc place)
+  pub crc-refused : length frame ≡ crcStart frame + 15 → crcRight frame ≡ false → shown reading frame place ≡ wrong (Crc place)
   unfolding shown crcStart
   crc-refused e r =
       let longer : length frame ≡ 19 → ⊥ = λ d. omega arith in
       simp (ne-eqb (length frame) 19 longer, eq-eqb (length frame) (19 + 8 * dlcIn frame + 15) e, r)
 
-  pub nothing-shown : (length frame ≡ 19 → dlcRefused frame ≡ false) → (length frame ≡ crcStart frame + 15 → crcRight frame ≡ true)
-      → shown frame place ≡ right
-  unfolding shown
-  nothing-shown fine check = first (eqb (length frame) 19) refl
-    where
-      second : (t : Bool) → eqb (length frame) (crcStart frame + 15) ≡ t → cond (t && not (crcRight frame)) (wrong (Crc place)) right ≡ right
-      second true e = simp (check (eqb-true _ _ e))
-      second false e = refl
+  pub slot-refused : length frame ≡ crcStart frame + 17 → slotRight reading frame ≡ false → shown reading frame place ≡ wrong (NotAcknowledged place)
+  unfolding shown crcStart
+  slot-refused e r =
+      let behind : length frame ≡ 19 → ⊥ = λ d. omega arith in
+      let longer : length frame ≡ 19 + 8 * dlcIn frame + 15 → ⊥ = λ d. omega arith in
+      simp (
+        ne-eqb (length frame) 19 behind,
+        ne-eqb (length frame) (19 + 8 * dlcIn frame + 15) longer,
+        eq-eqb (length frame) (19 + 8 * dlcIn frame + 17) e,
+        r,
+      )
 
-      first : (t : Bool) → eqb (length frame) 19 ≡ t
-          → cond (t && dlcRefused frame) (wrong (FieldLength place))
-          (cond (eqb (length frame) (crcStart frame + 15) && not (crcRight frame)) (wrong (Crc place)) right)
-          ≡ right
-      first true e = simp (fine (eqb-true _ _ e)) (second (eqb (length frame) (crcStart frame + 15)) refl)
-      first false e = second (eqb (length frame) (crcStart frame + 15)) refl
+  pub nothing-shown : (length frame ≡ 19 → dlcRefused frame ≡ false) → (length frame ≡ crcStart frame + 15 → crcRight frame ≡ true)
+      → (length frame ≡ crcStart frame + 17 → slotRight reading frame ≡ true) → shown reading frame place ≡ right
+  unfolding shown
+  nothing-shown fine check slot =
+      rw (
+        quiet (eqb (length frame) 19) (dlcRefused frame) (λ e. fine (eqb-true _ _ e)),
+        quiet (eqb (length frame) (crcStart frame + 15)) (not (crcRight frame)) (λ e. ap not (check (eqb-true _ _ e))),
+        quiet (eqb (length frame) (crcStart frame + 17)) (not (slotRight reading frame)) (λ e. ap not (slot (eqb-true _ _ e))),
+      )
+    where
+      quiet : (t u : Bool) → (t ≡ true → u ≡ false) → (t && u) ≡ false
+      quiet true u h = h refl
+      quiet false u h = refl

@@ -9,9 +9,12 @@ use Rattle.bits.specs.declared.Run.{Run}
 use Rattle.bits.specs.Rows.{number}
 use Rattle.bits.specs.Stuffing.{nothingSent, counted}
 use Rattle.refusals.specs.declared.Refusal.{Refusal}
-use Rattle.refusals.specs.declared.Refusal.the-variants.{FieldLength, LineByte, StuffBit, LineLength, Crc, FixedBit}
+use Rattle.refusals.specs.declared.Refusal.the-variants.{FieldLength, LineByte, StuffBit, LineLength, Crc, FixedBit, NotAcknowledged}
 use Rattle.crc.specs.Crc.{crc}
 use Rattle.scanning.specs.Form.{either, form, fits}
+use Rattle.scanning.specs.declared.AckSlot.{AckSlot}
+use Rattle.scanning.specs.declared.AckSlot.the-variants.{Acknowledged, Either}
+use Rattle.scanning.specs.declared.Reading.{Reading}
 
 -- the identifier among the frame's bits [12.17]
 unfoldable pub identifierIn : List ℕ → ℕ
@@ -50,21 +53,32 @@ dlcRefused frame = eqb (dlcIn frame) 1 || ltb 8 (dlcIn frame)
 abbrev pub crcRight : List ℕ → Bool
 crcRight frame = eqb (number 0 (drop (crcStart frame) frame)) (crc (take (crcStart frame) frame))
 
--- what the frame's bits show once the bit at this place is among them: 3 at the fourth DLC bit, 12 at the last CRC bit [12.13, 12.14]
-unfoldable pub shown : List ℕ → ℕ → Verdict
-shown frame place =
+-- the greatest bit that may stand in the ACK slot: 0 where somebody must have heard the frame [12.18]
+abbrev pub slotMost : AckSlot → ℕ
+slotMost Acknowledged = 0
+slotMost Either = 1
+
+-- the bit in the ACK slot, the second behind the CRC, may stand there [12.18]
+abbrev pub slotRight : Reading → List ℕ → Bool
+slotRight reading frame = leb (getD frame (crcStart frame + 16) 0) (slotMost (reading .slot))
+
+-- what the frame's bits show once the bit at this place is among them: 3 at the fourth DLC bit, 12 at the last CRC bit, 20 at the ACK
+-- slot [12.13, 12.14, 12.18]
+unfoldable pub shown : Reading → List ℕ → ℕ → Verdict
+shown reading frame place =
     cond (eqb (length frame) 19 && dlcRefused frame) (wrong (FieldLength place))
     (cond (eqb (length frame) (crcStart frame + 15) && not (crcRight frame)) (wrong (Crc place))
-    right)
+    (cond (eqb (length frame) (crcStart frame + 17) && not (slotRight reading frame)) (wrong (NotAcknowledged place))
+    right))
 
--- what is wrong with the bit at a place, in the order 11, 9, 10, 13, then 3 or 12 [12.7, 12.8, 12.10, 12.11, 12.12]
-unfoldable pub verdict : Run → List ℕ → ℕ → ℕ → Verdict
-verdict run frame place bit =
+-- what is wrong with the bit at a place, in the order 11, 9, 10, 13, then 3, 12 or 20 [12.7, 12.8, 12.10, 12.11, 12.12]
+unfoldable pub verdict : Reading → Run → List ℕ → ℕ → ℕ → Verdict
+verdict reading run frame place bit =
     cond (complete frame) (wrong (LineLength place))
     (cond (ltb 1 bit) (wrong (LineByte place))
     (cond (stuffDue run frame) (cond (eqb bit (run .bit)) (wrong (StuffBit place)) right)
     (cond (not (fits (mustBe frame) bit)) (wrong (FixedBit place))
-    (shown (frame ++ (bit ∷ [])) place))))
+    (shown reading (frame ++ (bit ∷ [])) place))))
 
 -- the run and the frame's bits behind a bit that is right; a stuff bit is none of the frame's [12.2]
 unfoldable pub runWith : Run → ℕ → Run
@@ -84,14 +98,14 @@ onward right next = next
 onward (wrong refusal) next = stopped refusal
 
 -- the bits of a line from a place on; 11 where they end before the frame does [12.1, 12.9]
-unfoldable pub scan : Run → List ℕ → ℕ → List ℕ → Scanned
-scan run frame place [] = cond (complete frame) (whole frame) (stopped (LineLength place))
-scan run frame place (bit ∷ line) =
-    onward (verdict run frame place bit) (scan (runWith run bit) (frameWith run frame bit) (place + 1) line)
+unfoldable pub scan : Reading → Run → List ℕ → ℕ → List ℕ → Scanned
+scan reading run frame place [] = cond (complete frame) (whole frame) (stopped (LineLength place))
+scan reading run frame place (bit ∷ line) =
+    onward (verdict reading run frame place bit) (scan reading (runWith run bit) (frameWith run frame bit) (place + 1) line)
 
 -- a line from its first bit on: no run reaches in from before it [12.3, 12.15]
-unfoldable pub scanned : List ℕ → Scanned
-scanned line = scan nothingSent [] 0 line
+unfoldable pub scanned : Reading → List ℕ → Scanned
+scanned reading line = scan reading nothingSent [] 0 line
 
 -- what is known behind the first bits of a line: the run that ends them, and the frame's bits among them [12.2]
 unfoldable pub runBehind : Run → List ℕ → Run

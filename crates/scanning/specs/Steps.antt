@@ -1,17 +1,18 @@
 -- Reading as the code does it, by registers and row by row; no public contract cites it. Assumes nothing.
 use Prim.Native.Nat.{ℕ, _+_, _-_, _*_, _/_, _%_, _^_}
 use mathlib.Core.Path.{_≡_}
-use mathlib.Core.Bool.{Bool, cond, not, _||_}
+use mathlib.Core.Bool.{Bool, cond, _||_}
 use mathlib.Core.List.{List, [], _∷_, _++_}
 use lib.Dec.{eqb, leb, ltb}
-use lib.ListN.{length, getD, set, replicate}
+use lib.ListN.{length, getD, set}
 use Rattle.bits.specs.Rows.{bits}
-use Rattle.refusals.specs.declared.Refusal.the-variants.{FieldLength, LineByte, StuffBit, LineLength, Crc, FixedBit}
+use Rattle.refusals.specs.declared.Refusal.{Refusal}
+use Rattle.refusals.specs.declared.Refusal.the-variants.{FieldLength, LineByte, StuffBit, LineLength, Crc, FixedBit, NotAcknowledged}
 use Rattle.crc.specs.Crc.{crc}
 use Rattle.crc.specs.Dlc.{dataBytes}
-use Rattle.scanning.specs.Form.{either, fits}
-use Rattle.scanning.specs.Scan.{identifierIn, dlcIn, Scanned, whole, stopped}
+use Rattle.scanning.specs.Scan.{identifierIn, dlcIn, slotMost, Scanned, whole, stopped}
 use Rattle.scanning.specs.Held.{dataIn}
+use Rattle.scanning.specs.declared.Reading.{Reading}
 use Rattle.scanning.specs.declared.seen.Seen.{Seen}
 use Rattle.scanning.specs.declared.seen.Step.{Step}
 use Rattle.scanning.specs.declared.seen.Step.the-variants.{Next, Refused}
@@ -31,25 +32,23 @@ widthsOf n =
     ∷ 8  -- ACK delimiter, end bits
     ∷ []
 
--- and the bit that each of these must be
-unfoldable pub mustList : List ℕ
-mustList =
+-- and the greatest bit that may stand in each of these
+unfoldable pub mostList : List ℕ
+mostList =
     0  -- start of frame
-    ∷ either  -- identifier
+    ∷ 1  -- identifier
     ∷ 0  -- RTR, IDE, reserved bit
-    ∷ either  -- DLC
-    ∷ either  -- data
-    ∷ either  -- CRC
+    ∷ 1  -- DLC
+    ∷ 1  -- data
+    ∷ 1  -- CRC
     ∷ 1  -- CRC delimiter
-    ∷ either  -- ACK slot
+    ∷ 1  -- ACK slot
     ∷ 1  -- ACK delimiter, end bits
     ∷ []
 
--- the bit that must stand at each position of such rows
-unfoldable pub formOf : List ℕ → List ℕ → List ℕ
-formOf [] must = []
-formOf (width ∷ widths) [] = []
-formOf (width ∷ widths) (bit ∷ must) = replicate width bit ++ formOf widths must
+-- in the ACK slot the reading says which
+unfoldable pub mostOf : Reading → List ℕ
+mostOf reading = set mostList 7 (slotMost (reading .slot))
 
 -- the place that comes first
 unfoldable pub least : ℕ → ℕ → ℕ
@@ -108,36 +107,45 @@ stuffBit raw line seen =
 unfoldable pub passed : ℕ → List ℕ → Seen → Step
 passed raw line seen = cond (dueIn (seen .raw)) (stuffBit raw line seen) (Next seen)
 
--- a bit that is refused: one where the other must stand, or a byte that is none
-unfoldable pub refusedBit : ℕ → ℕ → ℕ → Step
-refusedBit must bit place = cond (eqb (must + bit) 1) (Refused (FixedBit place)) (Refused (LineByte place))
+-- a byte that is more than may stand at its place: a 1 is refused so, a greater one is no bit
+unfoldable pub above : ℕ → Refusal → ℕ → Step
+above byte refusal place = cond (eqb byte 1) (Refused refusal) (Refused (LineByte place))
 
--- a bit where `must` must stand, and what is seen behind it if it is right
-unfoldable pub judgedBit : ℕ → List ℕ → Seen → Seen → Step
-judgedBit must line seen next =
-    cond (ltb 1 (bitAt line seen)) (Refused (LineByte (seen .place)))
-    (cond (not (fits must (bitAt line seen))) (Refused (FixedBit (seen .place)))
-    (Next next))
+-- a bit where `most` is the greatest that may stand, and what is seen behind it if it is right
+unfoldable pub bitAtMost : ℕ → Refusal → List ℕ → Seen → Seen → Step
+bitAtMost most refusal line seen next =
+    cond (ltb most (bitAt line seen)) (above (bitAt line seen) refusal (seen .place)) (Next next)
 
--- a bit up to the CRC, and one behind it
+-- a bit up to the CRC, and the ACK slot
 abbrev pub fieldBit : ℕ → List ℕ → Seen → Step
-fieldBit must line seen = judgedBit must line seen (behindBit (bitAt line seen) seen)
+fieldBit most line seen = bitAtMost most (FixedBit (seen .place)) line seen (behindBit (bitAt line seen) seen)
 
-abbrev pub endingBit : ℕ → List ℕ → Seen → Step
-endingBit must line seen = judgedBit must line seen (behindEnding seen)
+abbrev pub slotBit : ℕ → List ℕ → Seen → Step
+slotBit most line seen = bitAtMost most (NotAcknowledged (seen .place)) line seen (behindEnding seen)
+
+-- a delimiter or an end bit
+unfoldable pub oneBit : List ℕ → Seen → Step
+oneBit line seen =
+    cond (eqb (bitAt line seen) 1) (Next (behindEnding seen))
+    (cond (eqb (bitAt line seen) 0) (Refused (FixedBit (seen .place))) (Refused (LineByte (seen .place))))
 
 abbrev pub andThen : Step → (Seen → Step) → Step
 andThen (Next seen) next = next seen
 andThen (Refused refusal) next = Refused refusal
 
--- the next bit of a row behind the CRC; before that of the first row, the CRC delimiter, a stuff bit may stand
-unfoldable pub endingRow : ℕ → ℕ → List ℕ → Seen → Step
-endingRow f must line seen = cond (ltb 6 f) (endingBit must line seen) (andThen (passed (seen .raw) line seen) (endingBit must line))
+-- the CRC delimiter, and the stuff bit before it
+unfoldable pub delimiterBit : List ℕ → Seen → Step
+delimiterBit line seen = andThen (passed (seen .raw) line seen) (oneBit line)
+
+-- the next bit of a row behind the CRC
+unfoldable pub endingBit : ℕ → ℕ → List ℕ → Seen → Step
+endingBit f most line seen =
+    cond (eqb f 7) (slotBit most line seen) (cond (eqb f 6) (delimiterBit line seen) (oneBit line seen))
 
 -- the next bit of row f, and the stuff bit before it
 unfoldable pub lineBit : ℕ → ℕ → List ℕ → Seen → Step
-lineBit f must line seen =
-    cond (ltb 5 f) (endingRow f must line seen) (andThen (passed (1 + seen .raw % 2) line seen) (fieldBit must line))
+lineBit f most line seen =
+    cond (ltb 5 f) (endingBit f most line seen) (andThen (passed (1 + seen .raw % 2) line seen) (fieldBit most line))
 
 -- behind the last bit of the DLC: 3, or the header is whole
 unfoldable pub headerRead : Seen → Step

@@ -1,86 +1,105 @@
 // One bit of a field.
 ghost use mathlib.Core.Path.{_≡_};
-ghost use Prim.Native.Nat.{_+_, _%_, _≤_, _<_, _^_};
+ghost use Prim.Native.Nat.{_+_, _≤_, _<_, _^_};
 ghost use lib.ListN.{length};
-ghost use Rattle.scanning.specs.Steps.{refusedBit, behindBit, behindEnding, endingBit, endingRow, fieldBit, lineBit};
+ghost use Rattle.scanning.specs.Steps.{above, behindBit, behindEnding, fieldBit, slotBit, oneBit, delimiterBit, endingBit, lineBit};
 use crate::fields;
 use crate::seen::Seen;
 use crate::seen::Step;
 use crate::stuffing;
 use refusals::Refusal;
 
-// Reads the next bit of the field numbered `field`, whose bits must be `must`, where that is 0 or 1; and the stuff bit before it where
-// one is due.
-pub(crate) fn next(line: &[u8], field: usize, must: u8, seen: Seen) -> Step
-    requires { ⌜ (seen .place < length (now line)) × (seen .end < 2 ^ 63 + 256) × (seen .number < 2 ^ 63) × (must ≤ 2) × (field ≤ 5 → must % 2 ≡ 0) × (5 < field → 0 < must) ⌝ }
-    ensures { λ r. ⌜ r ≡ lineBit field must (now (line .entry)) seen ⌝ }
+// Reads the next bit of the field numbered `field`, in which `most` is the greatest bit that may stand; and the stuff bit before it
+// where one is due.
+pub(crate) fn next(line: &[u8], field: usize, most: u8, seen: Seen) -> Step
+    requires { ⌜ (seen .place < length (now line)) × (seen .end < 2 ^ 63 + 256) × (seen .number < 2 ^ 63) × (most ≤ 1) ⌝ }
+    ensures { λ r. ⌜ r ≡ lineBit field most (now (line .entry)) seen ⌝ }
 {
     if fields::CRC < field {
-        return ending(line, field, must, seen);
+        return ending(line, field, most, seen);
     }
     // The raw bits behind a stuff bit: it and, before it, a bit of the other value.
     match stuffing::pass(line, 1 + seen.raw % 2, seen) {
-        Step::Next(next) => field_bit(line, must, next),
+        Step::Next(next) => field_bit(line, most, next),
         Step::Refused(refusal) => Step::Refused(refusal),
     }
 }
 
-// A bit behind the CRC. Before the first, the CRC delimiter, a stuff bit may stand; then nothing asks for the raw bits any more.
-fn ending(line: &[u8], field: usize, must: u8, seen: Seen) -> Step
-    requires { ⌜ (seen .place < length (now line)) × (seen .end < 2 ^ 63 + 256) × (must ≤ 2) × (0 < must) ⌝ }
-    ensures { λ r. ⌜ r ≡ endingRow field must (now (line .entry)) seen ⌝ }
+// A bit behind the CRC: but for the ACK slot, each must be 1.
+fn ending(line: &[u8], field: usize, most: u8, seen: Seen) -> Step
+    requires { ⌜ (seen .place < length (now line)) × (seen .end < 2 ^ 63 + 256) ⌝ }
+    ensures { λ r. ⌜ r ≡ endingBit field most (now (line .entry)) seen ⌝ }
 {
-    if fields::CRC_DELIMITER < field {
-        return ending_bit(line, must, seen);
+    if field == fields::ACK_SLOT {
+        return slot(line, most, seen);
     }
+    if field == fields::CRC_DELIMITER {
+        return delimiter(line, seen);
+    }
+    one(line, seen)
+}
+
+// The CRC delimiter, before which a stuff bit may stand; behind it nothing asks for the raw bits any more.
+fn delimiter(line: &[u8], seen: Seen) -> Step
+    requires { ⌜ (seen .place < length (now line)) × (seen .end < 2 ^ 63 + 256) ⌝ }
+    ensures { λ r. ⌜ r ≡ delimiterBit (now (line .entry)) seen ⌝ }
+{
     match stuffing::pass(line, seen.raw, seen) {
-        Step::Next(next) => ending_bit(line, must, next),
+        Step::Next(next) => one(line, next),
         Step::Refused(refusal) => Step::Refused(refusal),
     }
 }
 
-// A bit up to the CRC, where none must be 1.
-fn field_bit(line: &[u8], must: u8, seen: Seen) -> Step
-    requires { ⌜ (seen .place < length (now line)) × (seen .number < 2 ^ 63) × (must ≤ 2) × (must % 2 ≡ 0) ⌝ }
-    ensures { λ r. ⌜ r ≡ fieldBit must (now (line .entry)) seen ⌝ }
+// A bit up to the CRC; a 1 where only a 0 may stand is a fixed bit that is wrong.
+fn field_bit(line: &[u8], most: u8, seen: Seen) -> Step
+    requires { ⌜ (seen .place < length (now line)) × (seen .number < 2 ^ 63) × (most ≤ 1) ⌝ }
+    ensures { λ r. ⌜ r ≡ fieldBit most (now (line .entry)) seen ⌝ }
 {
     let place = seen.place;
-    let must = must as u64;
-    let bit = line[place] as u64;
-    // At most 0 where a 0 must stand, at most 1 where either may.
-    if must / 2 < bit {
-        return wrong(must, bit, place);
+    let bit = line[place];
+    if most < bit {
+        return above(bit, Refusal::FixedBit(place), place);
     }
-    Step::Next(behind(bit, seen))
+    Step::Next(behind(bit as u64, seen))
 }
 
-// A byte that is no bit, or a 1 where a 0 must stand, or a 0 where a 1 must.
-fn wrong(must: u64, bit: u64, place: usize) -> Step
-    requires { ⌜ (must ≤ 2) × (bit < 256) ⌝ }
-    ensures { λ r. ⌜ r ≡ refusedBit must bit place ⌝ }
+// The ACK slot; a 1 where only a 0 may stand: nobody heard the frame.
+fn slot(line: &[u8], most: u8, seen: Seen) -> Step
+    requires { ⌜ seen .place < length (now line) ⌝ }
+    ensures { λ r. ⌜ r ≡ slotBit most (now (line .entry)) seen ⌝ }
 {
-    if must + bit == 1 {
-        return Step::Refused(Refusal::FixedBit(place));
+    let place = seen.place;
+    let ack = line[place];
+    if most < ack {
+        return above(ack, Refusal::NotAcknowledged(place), place);
+    }
+    Step::Next(further(seen))
+}
+
+// A byte that is more than may stand at its place: a 1 is refused so, a greater one is no bit.
+fn above(byte: u8, refusal: Refusal, place: usize) -> Step
+    ensures { λ r. ⌜ r ≡ above byte refusal place ⌝ }
+{
+    if byte == 1 {
+        return Step::Refused(refusal);
     }
     Step::Refused(Refusal::LineByte(place))
 }
 
-// A bit behind the CRC and its stuff bit, where none must be 0. Nothing asks for these bits any more.
-fn ending_bit(line: &[u8], must: u8, seen: Seen) -> Step
-    requires { ⌜ (seen .place < length (now line)) × (must ≤ 2) × (0 < must) ⌝ }
-    ensures { λ r. ⌜ r ≡ endingBit must (now (line .entry)) seen ⌝ }
+// A delimiter or an end bit.
+fn one(line: &[u8], seen: Seen) -> Step
+    requires { ⌜ seen .place < length (now line) ⌝ }
+    ensures { λ r. ⌜ r ≡ oneBit (now (line .entry)) seen ⌝ }
 {
     let place = seen.place;
-    let must = must as u64;
-    let bit = line[place] as u64;
+    let bit = line[place];
     if bit == 1 {
         return Step::Next(further(seen));
     }
-    // A 0 where either may stand.
-    if must + bit == 2 {
-        return Step::Next(further(seen));
+    if bit == 0 {
+        return Step::Refused(Refusal::FixedBit(place));
     }
-    wrong(must, bit, place)
+    Step::Refused(Refusal::LineByte(place))
 }
 
 // One place further on.

@@ -1,6 +1,9 @@
 // The fields of a frame in the order they are sent, as two tables; neighbours that must be the same bit are one field.
 ghost use mathlib.Core.Path.{_≡_};
-ghost use Rattle.scanning.specs.Steps.{widthsOf, mustList};
+ghost use Rattle.scanning.specs.Scan.{slotMost};
+ghost use Rattle.scanning.specs.Steps.{widthsOf, mostOf};
+use crate::AckSlot;
+use crate::Reading;
 
 // How many there are, and those that the code must tell from the others.
 pub(crate) const COUNT: usize = 9;
@@ -12,6 +15,8 @@ pub(crate) const DATA: usize = 4;
 pub(crate) const CRC: usize = 5;
 
 pub(crate) const CRC_DELIMITER: usize = 6;
+
+pub(crate) const ACK_SLOT: usize = 7;
 
 const WIDTHS: [u8; 9] = [
     1, // start of frame
@@ -25,15 +30,15 @@ const WIDTHS: [u8; 9] = [
     8, // ACK delimiter, end bits
 ];
 
-const MUST: [u8; 9] = [
+const MOST: [u8; 9] = [
     0, // start of frame
-    2, // identifier
+    1, // identifier
     0, // RTR, IDE, reserved bit
-    2, // DLC
-    2, // data
-    2, // CRC
+    1, // DLC
+    1, // data
+    1, // CRC
     1, // CRC delimiter
-    2, // ACK slot
+    1, // ACK slot
     1, // ACK delimiter, end bits
 ];
 
@@ -44,9 +49,21 @@ pub(crate) fn widths() -> [u8; 9]
     WIDTHS
 }
 
-// The bit that each bit of a field must be; 2 where either may stand.
-pub(crate) fn must() -> [u8; 9]
-    ensures { λ r. ⌜ r ≡ mustList ⌝ }
+// The greatest bit that may stand in each field. In the ACK slot the reading says which.
+pub(crate) fn most(reading: Reading) -> [u8; 9]
+    ensures { λ r. ⌜ r ≡ mostOf reading ⌝ }
 {
-    MUST
+    let slot = reading.slot;
+    let mut most = MOST;
+    most[ACK_SLOT] = slot_most(slot);
+    most
+}
+
+fn slot_most(slot: AckSlot) -> u8
+    ensures { λ r. ⌜ r ≡ slotMost slot ⌝ }
+{
+    match slot {
+        AckSlot::Acknowledged => 0,
+        AckSlot::Either => 1,
+    }
 }

@@ -14,6 +14,28 @@ mod walk;
 use refusals::Refusal;
 use seen::Step;
 
+// What a reading takes in the ACK slot. [12.18]
+pub enum AckSlot {
+    // 0: somebody heard the frame.
+    Acknowledged,
+    // 0 or 1: our own maker leaves a 1.
+    Either,
+}
+
+// What a reading asks of a line beside the rules that hold for every line. [12.18]
+pub struct Reading {
+    pub slot: AckSlot,
+}
+
+// How a line from a live bus is read, and one of our own maker.
+pub const ACKNOWLEDGED: Reading = Reading {
+    slot: AckSlot::Acknowledged,
+};
+
+pub const OWN: Reading = Reading {
+    slot: AckSlot::Either,
+};
+
 // What the frame of a line holds: an identifier and n data bytes, whose bits are the lowest of `field`; or a refusal. [12.1, 12.15]
 pub enum Held {
     Frame {
@@ -24,11 +46,11 @@ pub enum Held {
     Refused(Refusal),
 }
 
-// Scans a line, a byte 0 or 1 for each bit, from its first bit on. Refused with 3 and 9 to 13, at the first problem met.
-pub fn scan(line: &[u8]) -> Held
-    ensures { λ r. ⌜ r ≡ heldIn (scanned (now (line .entry))) ⌝ }
+// Scans a line, a byte 0 or 1 for each bit, from its first bit on. Refused with 3, 9 to 13 and 20, at the first problem met.
+pub fn scan(line: &[u8], reading: Reading) -> Held
+    ensures { λ r. ⌜ r ≡ heldIn (scanned reading (now (line .entry))) ⌝ }
 {
-    match walk::along(line) {
+    match walk::along(line, reading) {
         Step::Next(seen) => {
             // Behind the identifier stand seven bits: RTR, IDE, reserved bit, DLC.
             let identifier = (seen.header / 128 % 2048) as u32;

@@ -2,6 +2,7 @@
 ghost use Prim.Native.Nat.{_<_};
 ghost use Rattle.scanning.specs.Scan.{scanned};
 ghost use Rattle.scanning.specs.Steps.{Reads};
+use crate::Reading;
 use crate::bit;
 use crate::field_end;
 use crate::fields;
@@ -11,11 +12,11 @@ use crate::seen::Step;
 use refusals::Refusal;
 
 // What is seen of the whole line, field by field and bit by bit.
-pub(crate) fn along(line: &[u8]) -> Step
-    ensures { λ r. ⌜ Reads r (scanned (now (line .entry))) ⌝ }
+pub(crate) fn along(line: &[u8], reading: Reading) -> Step
+    ensures { λ r. ⌜ Reads r (scanned reading (now (line .entry))) ⌝ }
 {
     let mut widths = fields::widths();
-    let must = fields::must();
+    let most = fields::most(reading);
     let mut seen = seen::NOTHING;
     let mut i = 0;
     'line: loop {
@@ -28,7 +29,7 @@ pub(crate) fn along(line: &[u8]) -> Step
         seen.end = seen.place + widths[i] as usize;
         seen.stop = places::least(seen.end, line.len());
         while seen.place < seen.stop {
-            match bit::next(line, i, must[i], seen) {
+            match bit::next(line, i, most[i], seen) {
                 Step::Next(next) => {
                     seen = next;
                 }

@@ -16,8 +16,8 @@ along-requires : tie.Need-along-requires
 along-requires c κs = search needs
 
 -- what the walk along the line says, in its case
-walked : (c : tie.After-along) (r : Step) → c .along .result ≡ r → Reads r (scanned (c .before .before .args .line .now))
-walked c r e = subst (λ (x : Step). Reads x (scanned (c .before .before .args .line .now))) e (c .along .ensures)
+walked : (c : tie.After-along) (r : Step) → c .along .result ≡ r → Reads r (scanned (c .before .before .args .reading) (c .before .before .args .line .now))
+walked c r e = subst (λ (x : Step). Reads x (scanned (c .before .before .args .reading) (c .before .before .args .line .now))) e (c .along .ensures)
 
 held : (seen : Seen) (frame : List ℕ) (s : Scanned) → s ≡ whole frame → Holds seen frame
     → Frame (seen .header / 128 % 2048) (seen .header % 16) (seen .field) ≡ heldIn s

@@ -10,7 +10,7 @@ use Rattle.scanning.proofs.bit.next.Tie as tie
 ending-requires : tie.Need-ending-requires
 ending-requires c κs =
     let pre = c .before .before .pre in
-    (pre .0, pre .1, pre .3, pre .5 (omega (arith, c .if1 .taken)))
+    (pre .0, pre .1)
 
 returns : tie.Need-returns
 returns c =
@@ -31,7 +31,7 @@ field-bit-requires c κs =
     let at = c .before .before .before .before .before in
     let pre = at .before .before .pre in
     let inside = passed-inside _ _ _ _ (pre .0) (sym (c .before .next .given .1) ∙ c .before .before .before .pass .ensures) in
-    (inside .0, omega (arith, inside .1, pre .2), pre .3, pre .4 (at .if1 .left))
+    (inside .0, omega (arith, inside .1, pre .2), pre .3)
 
 enum-known-refusal : tie.Need-enum-known-refusal
 enum-known-refusal c = search needs

@@ -7,37 +7,41 @@ use lib.ListN.{length, getD}
 use borrow.Author.Needs.{needs}
 use Rattle.bits.specs.declared.Run.{Run}
 use Rattle.bits.specs.Stuffing.{nothingSent}
-use Rattle.scanning.specs.Steps.{widthsOf}
+use Rattle.scanning.specs.Scan.{scanned}
+use Rattle.scanning.specs.Steps.{widthsOf, mostOf}
+use Rattle.scanning.specs.declared.Reading.{Reading}
 use Rattle.scanning.proofs.Positions.{end-is, end-some, end-within}
-use Rattle.scanning.proofs.Keeping.{bytes, Told, Between, Within, least-both, Goes, must-stand, number-small, end-small, bit-goes}
-use Rattle.scanning.proofs.FieldEnds.{Ends, row-bits, line-begins, field-begins, field-ends, line-longer, line-read}
+use Rattle.scanning.proofs.Rows.{readingOf, reading-told, most-bit}
+use Rattle.scanning.proofs.Keeping.{bytes, Told, Between, Within, least-both, Goes, number-small, end-small, bit-goes}
+use Rattle.scanning.proofs.FieldEnds.{Ends, line-begins, field-begins, field-ends, line-longer, line-read}
 use Rattle.scanning.proofs.Widths.{width-is, widths-end}
 use Rattle.scanning.proofs.walk.along.Statement.{statement}
 use Rattle.scanning.proofs.walk.along.Tie as tie
 
+-- the reading is not asked for in the loops: what it said stands in the row of the ACK slot
 abbrev Inv-loop : tie.InvT-loop
-Inv-loop line widths must seen₀ i seen =
-    (i < 9) × ((frame : List ℕ) × (run : Run) × (left : ℕ) × Within line i seen run left frame × Told seen run frame)
+Inv-loop line widths most seen₀ i seen =
+    (i < 9) × ((frame : List ℕ) × (run : Run) × (left : ℕ) × Within (readingOf most) line i seen run left frame × Told seen run frame)
     × (widths ≡ widthsOf (bytes seen))
 
 abbrev μ-loop : tie.MeasureT-loop
-μ-loop line widths must seen₀ i seen = length line - seen .place
+μ-loop line widths most seen₀ i seen = length line - seen .place
 
 abbrev Inv-line : tie.InvT-line
-Inv-line line widths₀ must seen₀ i₀ widths seen i =
-    (i ≤ 9) × ((frame : List ℕ) × (run : Run) × Between line i seen run frame) × (widths ≡ widthsOf (bytes seen))
+Inv-line line widths₀ most seen₀ i₀ widths seen i =
+    (i ≤ 9) × ((frame : List ℕ) × (run : Run) × Between (readingOf most) line i seen run frame) × (widths ≡ widthsOf (bytes seen))
 
 abbrev μ-line : tie.MeasureT-line
-μ-line line widths₀ must seen₀ i₀ widths seen i = 9 - i
+μ-line line widths₀ most seen₀ i₀ widths seen i = 9 - i
 
 widths-requires : tie.Need-widths-requires Inv-loop μ-loop Inv-line μ-line
 widths-requires c κs = search needs
 
-must-requires : tie.Need-must-requires Inv-loop μ-loop Inv-line μ-line
-must-requires c κs = search needs
+most-requires : tie.Need-most-requires Inv-loop μ-loop Inv-line μ-line
+most-requires c κs = search needs
 
 line-holds : tie.Need-line-holds Inv-loop μ-loop Inv-line μ-line
-line-holds c = (omega arith, ([], nothingSent, line-begins _), c .before .widths .ensures)
+line-holds c = (omega arith, ([], nothingSent, line-begins _ _), c .before .widths .ensures)
 
 array-read-seen : tie.Need-array-read-seen Inv-loop μ-loop Inv-line μ-line
 array-read-seen c = search needs
@@ -63,7 +67,7 @@ loop-holds : tie.Need-loop-holds Inv-loop μ-loop Inv-line μ-line
 loop-holds c =
     let l = c .before .before .before .line in
     let h : l .i < 9 = omega (arith, l .inv .0, c .before .before .if1 .left) in
-    let within = field-begins _ (l .i) (l .seen) (l .inv .1 .1) (l .inv .1 .0) _ h (width-is (l .widths) (l .i) (bytes (l .seen)) (l .inv .2)) (l .inv .1 .2) in
+    let within = field-begins _ _ (l .i) (l .seen) (l .inv .1 .1) (l .inv .1 .0) _ h (width-is (l .widths) (l .i) (bytes (l .seen)) (l .inv .2)) (l .inv .1 .2) in
     (h, (l .inv .1 .0, l .inv .1 .1, getD (l .widths) (l .i) 0, rw (c .least .ensures) within, l .inv .1 .2 .told), l .inv .2)
 
 array-read-next : tie.Need-array-read-next Inv-loop μ-loop Inv-line μ-line
@@ -78,22 +82,19 @@ next-requires c κs =
     let w = l .inv .1 .3 in
     let both = least-both _ _ _ (rw (w .stop-is) at (c .if3 .taken)) in
     let some : 0 < l .inv .1 .2 = omega (arith, w .end-is, both .0) in
-    let small = end-small _ i (l .seen) (l .inv .1 .1) (l .inv .1 .2) (l .inv .1 .0) (l .inv .0) w in
-    let row = row-bits i (l .inv .0) in
-    let table = ap (λ (l : List ℕ). getD l i 0) (start .before .must .ensures) in (
+    let small = end-small _ _ i (l .seen) (l .inv .1 .1) (l .inv .1 .2) (l .inv .1 .0) (l .inv .0) w in
+    let table = ap (λ (l : List ℕ). getD l i 0) (start .before .most .ensures) in (
       both .1,
       omega (arith, small, start .before .before .before .before .good),
-      number-small _ i (l .seen) (l .inv .1 .1) (l .inv .1 .2) (l .inv .1 .0) (l .inv .0) w some,
-      rw table (row .0),
-      rw table (row .1),
-      rw table (row .2),
+      number-small _ _ i (l .seen) (l .inv .1 .1) (l .inv .1 .2) (l .inv .1 .0) (l .inv .0) w some,
+      rw table (most-bit _ i (l .inv .0)),
     )
 
 -- what the bit leads to
 goes : (c : tie.After-next Inv-loop μ-loop Inv-line μ-line) →
     let at = c .before .before .before in
     let start = at .before .before .before .before in
-    Goes (start .before .before .before .before .args .line .now) (start .line .i) (at .loop .seen) (c .next .result)
+    Goes (readingOf (start .before .most .result)) (start .before .before .before .before .args .line .now) (start .line .i) (at .loop .seen) (c .next .result)
 goes c =
     let at = c .before .before .before in
     let l = at .loop in
@@ -102,26 +103,23 @@ goes c =
     let line = start .before .before .before .before .args .line .now in
     let w = l .inv .1 .3 in
     let before = c .before .if3 .taken in
-    let both = least-both _ _ _ (rw (w .stop-is) at before) in
-    let some : 0 < l .inv .1 .2 = omega (arith, w .end-is, both .0) in
-    let must =
-    must-stand line i (l .seen) (l .inv .1 .1) (l .inv .1 .2) (l .inv .1 .0) (l .inv .0) w some
-    ∙ sym (ap (λ (l : List ℕ). getD l i 0) (start .before .must .ensures)) in
-    subst (Goes line i (l .seen)) (sym (c .next .ensures))
-    (bit-goes line i (l .seen) (l .inv .1 .1) (l .inv .1 .2) (l .inv .1 .0) (l .inv .0) w (l .inv .1 .4) before _ must)
+    let told = start .before .most .ensures in
+    let row = ap (λ (l : List ℕ). getD l i 0) (told ∙ ap mostOf (sym (reading-told _ _ told))) in
+    subst (Goes _ line i (l .seen)) (sym (c .next .ensures))
+    (bit-goes _ line i (l .seen) (l .inv .1 .1) (l .inv .1 .2) (l .inv .1 .0) (l .inv .0) w (l .inv .1 .4) before _ row)
 
 enum-known-next : tie.Need-enum-known-next Inv-loop μ-loop Inv-line μ-line
 enum-known-next c = search needs
 
 loop-less : tie.Need-loop-less Inv-loop μ-loop Inv-line μ-line
 loop-less c =
-    let next = subst (Goes _ _ _) (c .before .next2 .given .1) (goes (c .before .before .before)) in
+    let next = subst (Goes _ _ _ _) (c .before .next2 .given .1) (goes (c .before .before .before)) in
     omega (arith, next .5, next .6)
 
 loop-again : tie.Need-loop-again Inv-loop μ-loop Inv-line μ-line
 loop-again c =
     let at = c .before .before .before in
-    let next = subst (Goes _ _ _) (c .before .next2 .given .1) (goes at) in
+    let next = subst (Goes _ _ _ _) (c .before .next2 .given .1) (goes at) in
     let inv = at .before .before .before .loop .inv in
     (inv .0, (next .2, next .0, next .1, next .3, next .4), inv .2 ∙ ap (λ (k : ℕ). widthsOf (k % 16)) (sym (next .7)))
 
@@ -140,13 +138,13 @@ ends : (c : tie.After-judge Inv-loop μ-loop Inv-line μ-line) →
     let at = c .before .before .before .before in
     let start = at .before .before .before .before in
     let inv = at .loop .inv .1 in
-    Ends (start .before .before .before .before .args .line .now) (start .line .i) (inv .1) (inv .0) (c .judge .result)
+    Ends (readingOf (start .before .most .result)) (start .before .before .before .before .args .line .now) (start .line .i) (inv .1) (inv .0) (c .judge .result)
 ends c =
     let at = c .before .before .before .before in
     let l = at .loop in
     let i = at .before .before .before .before .line .i in
-    subst (Ends _ _ _ _) (sym (c .judge .ensures .0))
-    (field-ends _ i (l .seen) (l .inv .1 .1) (l .inv .1 .2) (l .inv .1 .0) (l .inv .0) (l .inv .1 .3) (l .inv .1 .4) (c .before .before .if3 .left))
+    subst (Ends _ _ _ _ _) (sym (c .judge .ensures .0))
+    (field-ends _ _ i (l .seen) (l .inv .1 .1) (l .inv .1 .2) (l .inv .1 .0) (l .inv .0) (l .inv .1 .3) (l .inv .1 .4) (c .before .before .if3 .left))
 
 enum-known-next-2 : tie.Need-enum-known-next-2 Inv-loop μ-loop Inv-line μ-line
 enum-known-next-2 c = search needs
@@ -166,25 +164,39 @@ line-again c =
     let l = at .before .before .before .before .loop in
     let next = c .before .next3 .given .1 in (
       omega (arith, l .inv .0),
-      (l .inv .1 .0, l .inv .1 .1, subst (Ends _ _ _ _) next (ends at)),
+      (l .inv .1 .0, l .inv .1 .1, subst (Ends _ _ _ _ _) next (ends at)),
       at .judge .ensures .1 ∙ widths-end (l .seen) _ _ (l .inv .2) _ (sym (at .judge .ensures .0) ∙ next),
     )
 
+-- the reading that the row of the ACK slot tells is the one that was handed in
+as-asked : (reading : Reading) (most line : List ℕ) → most ≡ mostOf reading → scanned reading line ≡ scanned (readingOf most) line
+as-asked reading most line e = ap (λ (r : Reading). scanned r line) (sym (reading-told reading most e))
+
 returns : tie.Need-returns Inv-loop μ-loop Inv-line μ-line
 returns c =
-    let l = c .before .before .before .line in
-    line-longer _ (l .seen) (l .inv .1 .1) (l .inv .1 .0) (rw (c .before .before .if1 .taken) at (l .inv .1 .2)) (c .if2 .taken)
+    let start = c .before .before .before in
+    let l = start .line in
+    as-asked _ _ _ (start .before .most .ensures)
+    ∙ line-longer _ _ (l .seen) (l .inv .1 .1) (l .inv .1 .0) (rw (c .before .before .if1 .taken) at (l .inv .1 .2)) (c .if2 .taken)
 
 returns-2 : tie.Need-returns-2 Inv-loop μ-loop Inv-line μ-line
 returns-2 c =
-    let l = c .before .before .before .line in
-    line-read _ (l .seen) (l .inv .1 .1) (l .inv .1 .0) (rw (c .before .before .if1 .taken) at (l .inv .1 .2)) (c .if2 .left)
+    let start = c .before .before .before in
+    let l = start .line in
+    let read = line-read _ _ (l .seen) (l .inv .1 .1) (l .inv .1 .0) (rw (c .before .before .if1 .taken) at (l .inv .1 .2)) (c .if2 .left) in
+    (read .0, as-asked _ _ _ (start .before .most .ensures) ∙ read .1, read .2)
 
 returns-3 : tie.Need-returns-3 Inv-loop μ-loop Inv-line μ-line
-returns-3 c = subst (Goes _ _ _) (c .before .refusal .given .1) (goes (c .before .before .before))
+returns-3 c =
+    let at = c .before .before .before in
+    as-asked _ _ _ (at .before .before .before .before .before .before .before .before .most .ensures)
+    ∙ subst (Goes _ _ _ _) (c .before .refusal .given .1) (goes at)
 
 returns-4 : tie.Need-returns-4 Inv-loop μ-loop Inv-line μ-line
-returns-4 c = subst (Ends _ _ _ _) (c .before .refusal2 .given .1) (ends (c .before .before .before))
+returns-4 c =
+    let at = c .before .before .before in
+    as-asked _ _ _ (at .before .before .before .before .before .before .before .before .before .most .ensures)
+    ∙ subst (Ends _ _ _ _ _) (c .before .refusal2 .given .1) (ends at)
 
 pub along-spec : {M : Type 1} → statement M
 along-spec =
@@ -195,7 +207,7 @@ along-spec =
     Inv-line
     μ-line
     widths-requires
-    must-requires
+    most-requires
     line-holds
     array-read-seen
     cast-seen

@@ -1,4 +1,4 @@
--- `line::read_line` meets its contract: the bits decide, and then the data field. Assumes nothing.
+-- `line::read` meets its contract: the bits decide, and then the data field. Assumes nothing.
 use mathlib.Core.Path.{sym, ap, _∙_}
 use mathlib.Core.List.{List}
 use Prim.Native.Nat.{ℕ}
@@ -8,8 +8,8 @@ use Rattle.refusals.specs.After.{after}
 use Rattle.refusals.proofs.After.{refused-keeps}
 use Rattle.line.specs.Read.{payloadIn, lineNumbers}
 use Rattle.line.proofs.FromScan.{from-held, from-refused}
-use Rattle.line.proofs.read_line.Statement.{statement}
-use Rattle.line.proofs.read_line.Tie as tie
+use Rattle.line.proofs.read.Statement.{statement}
+use Rattle.line.proofs.read.Tie as tie
 
 scan-requires : tie.Need-scan-requires
 scan-requires c κs = search needs
@@ -31,7 +31,7 @@ returns c =
     let args = c .before .before .before .before .before .before .before .before .before .before .args in
     let scan = c .before .before .before .before .before .before .before .scan in
     let told = sym (scan .ensures) ∙ c .before .before .before .before .before .identifier .given .1 in
-    let read = from-held (args .line .now) _ _ _ (length (args .payload .now)) told in
+    let read = from-held (args .reading) (args .line .now) _ _ _ (length (args .payload .now)) told in
     let said = c .before .before .decode .ensures in (
       said .0 ∙ read .0,
       said .1 ∙ ap (λ (l : List ℕ). after (lineNumbers (c .before .before .decode .result)) l (args .payload .now)) (read .1),
@@ -43,10 +43,10 @@ returns-2 c =
     let args = found .before .before .before .args in
     let refusal = c .before .refusal .given in
     let told = sym (found .scan .ensures) ∙ refusal .1 in
-    (sym (from-refused _ _ _ told), sym (refused-keeps (payloadIn (args .line .now)) _ (refusal .0 .0)))
+    (sym (from-refused _ _ _ _ told), sym (refused-keeps (payloadIn (args .reading) (args .line .now)) _ (refusal .0 .0)))
 
-pub read-line-spec : {M : Type 1} → statement M
-read-line-spec =
+pub read-spec : {M : Type 1} → statement M
+read-spec =
     tie.close
     (tie.spec
     scan-requires

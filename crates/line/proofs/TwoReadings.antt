@@ -1,0 +1,213 @@
+-- The two readings of a line, one that takes only a 0 in the ACK slot and one that takes either: they say the same, but for 20. Assumes
+-- nothing.
+--     unheard          what is refused with 20 is the bit in the ACK slot, and a 1, by a reading that does not take it
+--     verdict-same     of each bit both say the same, or one says 20
+--     same-answer      where reading a line from a live bus is not answered with 20, reading it as our own is answered the same
+--     not-acknowledged    where it is, the ACK slot is at that place and holds a 1, and every bit to its left is right, for both
+--     own-heard        reading it as our own is never answered with 20
+use mathlib.Core.Path.{_≡_, refl, sym, ap, ap₂, _∙_}
+use mathlib.Core.Bool.{Bool, true, false, cond, not, _&&_}
+use mathlib.Core.List.{List, [], _∷_, _++_}
+use mathlib.Core.Logic.{_⊎_, inl, inr}
+use Prim.Native.Nat.{ℕ, _+_, _≤_, _<_}
+use native.Mathlib.Omega.{arith}
+use lib.Dec.{eqb, leb, ltb}
+use lib.ListN.{length, getD, take, length-append}
+use lib.Seq.{getD-append-add}
+use borrow.Author.Tests.{le-leb, leb-false, ltb-false, eqb-true}
+use Rattle.bits.specs.declared.Run.{Run}
+use Rattle.bits.specs.Stuffing.{nothingSent}
+use Rattle.refusals.specs.declared.Refusal.{Refusal}
+use Rattle.refusals.specs.declared.Refusal.the-variants.{FieldLength, LineByte, StuffBit, LineLength, Crc, FixedBit, NotAcknowledged}
+use Rattle.scanning.specs.Form.{fits}
+use Rattle.scanning.specs.Scan.{crcStart, complete, stuffDue, mustBe, slotMost, slotRight, Verdict, right, wrong, shown, verdict, runWith, frameWith, runBehind, frameBehind, Scanned, whole, stopped, onward, scan, scanned}
+use Rattle.scanning.specs.declared.Reading.{Reading}
+use Rattle.scanning.proofs.Partial.{start-least, start-stays}
+use Rattle.line.specs.Read.{acknowledged, own, decoded, readAnswer, carried, payloadIn}
+use Rattle.line.specs.declared.Line.{Line}
+use Rattle.line.specs.declared.Line.the-variants.{Refused}
+use Rattle.line.proofs.Sound.{dlcWrong, crcWrong, slotWrong}
+use Rattle.line.proofs.FirstProblem.{twenty}
+use Rattle.line.proofs.ProblemMet.{problem-met, right-before}
+use Rattle.line.proofs.ReadRefusals.{bits-refused}
+
+-- ---- a bit
+
+-- with the bit b behind the frame's bits so far
+module _ (run : Run) (frame : List ℕ) (place b : ℕ) where
+  abbrev with : List ℕ
+  with = frame ++ (b ∷ [])
+
+  slot-bit : length with ≡ crcStart with + 17 → getD with (crcStart with + 16) 0 ≡ b
+  slot-bit e =
+      let at : crcStart with + 16 ≡ length frame + 0 = omega (arith, length-append frame (b ∷ [])) in
+      ap (λ (k : ℕ). getD with k 0) at ∙ getD-append-add frame (b ∷ []) 0 0
+
+  -- another refusal than 20 comes of another test
+  module _ (p : ℕ) where
+    other : (t : Bool) (r : Refusal) (v : Verdict) → (r ≡ NotAcknowledged p → ⊥) → cond t (wrong r) v ≡ wrong (NotAcknowledged p)
+        → v ≡ wrong (NotAcknowledged p)
+    other true r v n e = let same : r ≡ NotAcknowledged p = cc in absurd (n same)
+    other false r v n e = e
+
+    at-slot : (t : Bool) → cond t (wrong (NotAcknowledged place)) right ≡ wrong (NotAcknowledged p) → (t ≡ true) × (place ≡ p)
+    at-slot true e = let same : NotAcknowledged place ≡ NotAcknowledged p = cc in (refl, cc)
+    at-slot false e = let z : _≡_ {A = ℕ} 0 1 = cc in absurd (omega arith)
+
+    no-stuff : (t u : Bool) (v : Verdict) → cond t (cond u (wrong (StuffBit place)) right) v ≡ wrong (NotAcknowledged p) → v ≡ wrong (NotAcknowledged p)
+    no-stuff true true v e = let z : _≡_ {A = ℕ} 0 1 = cc in absurd (omega arith)
+    no-stuff true false v e = let z : _≡_ {A = ℕ} 0 1 = cc in absurd (omega arith)
+    no-stuff false u v e = e
+
+    both : (s t : Bool) → (s && not t) ≡ true → (s ≡ true) × (t ≡ false)
+    both true false e = (refl, refl)
+    both true true e = let z : _≡_ {A = ℕ} 0 1 = cc in absurd (omega arith)
+    both false t e = let z : _≡_ {A = ℕ} 0 1 = cc in absurd (omega arith)
+
+    bit-low : (t : Bool) (v : Verdict) → ltb 1 b ≡ t → cond t (wrong (LineByte place)) v ≡ wrong (NotAcknowledged p) → b ≤ 1
+    bit-low true v d e = let z : _≡_ {A = ℕ} 0 1 = cc in absurd (omega arith)
+    bit-low false v d e = ltb-false 1 b d
+
+    pub unheard : (reading : Reading) → verdict reading run frame place b ≡ wrong (NotAcknowledged p)
+        → (place ≡ p) × (b ≡ 1) × (slotMost (reading .slot) ≡ 0) × (length frame ≡ crcStart frame + 16)
+    unfolding verdict shown
+    unheard reading e =
+        let more = other (complete frame) (LineLength place) _ (λ d. let z : _≡_ {A = ℕ} 0 1 = cc in omega arith) e in
+        let low = bit-low (ltb 1 b) _ refl more in
+        let byte = other (ltb 1 b) (LineByte place) _ (λ d. let z : _≡_ {A = ℕ} 0 1 = cc in omega arith) more in
+        let bit = no-stuff (stuffDue run frame) (eqb b (run .bit)) _ byte in
+        let fixed = other (not (fits (mustBe frame) b)) (FixedBit place) _ (λ d. let z : _≡_ {A = ℕ} 0 1 = cc in omega arith) bit in
+        let dlc = other (dlcWrong with) (FieldLength place) _ (λ d. let z : _≡_ {A = ℕ} 0 1 = cc in omega arith) fixed in
+        let check = other (crcWrong with) (Crc place) _ (λ d. let z : _≡_ {A = ℕ} 0 1 = cc in omega arith) dlc in
+        let slot = at-slot (slotWrong reading with) check in
+        let tests = both (eqb (length with) (crcStart with + 17)) (slotRight reading with) (slot .0) in
+        let here = eqb-true (length with) (crcStart with + 17) (tests .0) in
+        let over = leb-false (getD with (crcStart with + 16) 0) (slotMost (reading .slot)) (tests .1) in
+        let is = slot-bit here in
+        let one = length-append frame (b ∷ []) in
+        let stays = start-stays frame (b ∷ []) (omega (arith, start-least with)) in
+        (slot .1, omega (arith, over, is), omega (arith, over, is), omega (arith, here, one, stays))
+
+  -- whichever way the other tests go
+  tests-same : (t a c d e f g h : Bool) →
+      let v : Bool → Verdict = λ s. cond a (wrong (LineLength place)) (cond t (wrong (LineByte place)) (cond c (cond d (wrong (StuffBit place)) right)
+      (cond e (wrong (FixedBit place)) (cond f (wrong (FieldLength place)) (cond g (wrong (Crc place)) (cond s (wrong (NotAcknowledged place)) right)))))) in
+      (v h ≡ v false) ⊎ (v h ≡ wrong (NotAcknowledged place))
+  tests-same t true c d e f g h = inl refl
+  tests-same true false c d e f g h = inl refl
+  tests-same false false true d e f g h = inl refl
+  tests-same false false false d true f g h = inl refl
+  tests-same false false false d false true g h = inl refl
+  tests-same false false false d false false true h = inl refl
+  tests-same false false false d false false false true = inr refl
+  tests-same false false false d false false false false = inl refl
+
+  own-slot : b ≤ 1 → slotWrong own with ≡ false
+  own-slot low = go (eqb (length with) (crcStart with + 17)) refl
+    where
+      go : (t : Bool) → eqb (length with) (crcStart with + 17) ≡ t → t && not (slotRight own with) ≡ false
+      go true e = let is = slot-bit (eqb-true _ _ e) in ap not (le-leb (getD with (crcStart with + 16) 0) 1 (omega (arith, is)))
+      go false e = refl
+
+  pub verdict-same : (verdict acknowledged run frame place b ≡ verdict own run frame place b)
+      ⊎ (verdict acknowledged run frame place b ≡ wrong (NotAcknowledged place))
+  unfolding verdict shown
+  verdict-same = byte (ltb 1 b) refl
+    where
+      tests : (t h : Bool) →
+          let v : Bool → Verdict = λ s. cond (complete frame) (wrong (LineLength place)) (cond t (wrong (LineByte place))
+          (cond (stuffDue run frame) (cond (eqb b (run .bit)) (wrong (StuffBit place)) right)
+          (cond (not (fits (mustBe frame) b)) (wrong (FixedBit place)) (cond (dlcWrong with) (wrong (FieldLength place))
+          (cond (crcWrong with) (wrong (Crc place)) (cond s (wrong (NotAcknowledged place)) right)))))) in
+          (v h ≡ v false) ⊎ (v h ≡ wrong (NotAcknowledged place))
+      tests t h =
+          tests-same t (complete frame) (stuffDue run frame) (eqb b (run .bit)) (not (fits (mustBe frame) b)) (dlcWrong with) (crcWrong with) h
+
+      byte : (t : Bool) → ltb 1 b ≡ t
+          → (verdict acknowledged run frame place b ≡ verdict own run frame place b)
+          ⊎ (verdict acknowledged run frame place b ≡ wrong (NotAcknowledged place))
+      byte true d = inl (rw d refl)
+      byte false d = rw (own-slot (ltb-false 1 b d)) (tests (ltb 1 b) (slotWrong acknowledged with))
+
+-- ---- a line
+
+-- both scans say the same, or the first stops with 20
+Same : Run → List ℕ → ℕ → List ℕ → Type 0
+Same run frame place line =
+    (scan acknowledged run frame place line ≡ scan own run frame place line)
+    ⊎ ((p : ℕ) × (scan acknowledged run frame place line ≡ stopped (NotAcknowledged p)))
+
+scan-same : (run : Run) (frame : List ℕ) (place : ℕ) (line : List ℕ) → Same run frame place line
+unfolding Same scan
+scan-same run frame place [] = inl refl
+scan-same run frame place (bit ∷ line) =
+    bits (verdict-same run frame place bit) (scan-same (runWith run bit) (frameWith run frame bit) (place + 1) line)
+  where
+    next : Reading → Scanned
+    next reading = scan reading (runWith run bit) (frameWith run frame bit) (place + 1) line
+
+    on : (v : Verdict) → (next acknowledged ≡ next own) ⊎ ((p : ℕ) × (next acknowledged ≡ stopped (NotAcknowledged p)))
+        → (onward v (next acknowledged) ≡ onward v (next own)) ⊎ ((p : ℕ) × (onward v (next acknowledged) ≡ stopped (NotAcknowledged p)))
+    on right later = later
+    on (wrong refusal) later = inl refl
+
+    bits : (verdict acknowledged run frame place bit ≡ verdict own run frame place bit)
+        ⊎ (verdict acknowledged run frame place bit ≡ wrong (NotAcknowledged place))
+        → (next acknowledged ≡ next own) ⊎ ((p : ℕ) × (next acknowledged ≡ stopped (NotAcknowledged p)))
+        → (onward (verdict acknowledged run frame place bit) (next acknowledged) ≡ onward (verdict own run frame place bit) (next own))
+        ⊎ ((p : ℕ) × (onward (verdict acknowledged run frame place bit) (next acknowledged) ≡ stopped (NotAcknowledged p)))
+    bits (inl e) later = rw e (on (verdict own run frame place bit) later)
+    bits (inr e) later = inr (place, rw e refl)
+
+pub same-answer : (line : List ℕ) (room : ℕ) → ((p : ℕ) → readAnswer acknowledged line room ≡ Refused (NotAcknowledged p) → ⊥)
+    → (readAnswer own line room ≡ readAnswer acknowledged line room) × (payloadIn own line ≡ payloadIn acknowledged line)
+unfolding readAnswer payloadIn scanned Same
+same-answer line room heard = go (scan-same nothingSent [] 0 line)
+  where
+    go : Same nothingSent [] 0 line
+        → (readAnswer own line room ≡ readAnswer acknowledged line room) × (payloadIn own line ≡ payloadIn acknowledged line)
+    go (inl e) = (ap (λ (s : Scanned). decoded s room) (sym e), ap carried (sym e))
+    go (inr (p, e)) = absurd (heard p (ap (λ (s : Scanned). decoded s room) e))
+
+-- what is known at a place of the line
+module _ (line : List ℕ) (k : ℕ) where
+  abbrev runTo : Run
+  runTo = runBehind nothingSent (take k line)
+
+  abbrev frameTo : List ℕ
+  frameTo = frameBehind nothingSent [] (take k line)
+
+  abbrev verdictAt : Reading → Verdict
+  verdictAt reading = verdict reading runTo frameTo k (getD line k 0)
+
+pub not-acknowledged : (line : List ℕ) (room p : ℕ) → readAnswer acknowledged line room ≡ Refused (NotAcknowledged p) →
+    (p < length line) × (getD line p 0 ≡ 1) × (length (frameTo line p) ≡ crcStart (frameTo line p) + 16)
+    × ((k : ℕ) → k < p → verdictAt line k own ≡ right)
+not-acknowledged line room p e = go (problem-met acknowledged line (NotAcknowledged p) stop)
+  where
+    stop : scanned acknowledged line ≡ stopped (NotAcknowledged p)
+    stop = bits-refused acknowledged line room (NotAcknowledged p) e (twenty p)
+
+    left : (k : ℕ) → k < p → verdictAt line k own ≡ right
+    left k h = bit (verdict-same (runTo line k) (frameTo line k) k (getD line k 0)) (right-before acknowledged line (NotAcknowledged p) stop k h)
+      where
+        bit : {v w : Verdict} → (v ≡ w) ⊎ (v ≡ wrong (NotAcknowledged k)) → v ≡ right → w ≡ right
+        bit (inl same) is = sym same ∙ is
+        bit (inr refused) is = let z : _≡_ {A = ℕ} 0 1 = cc in absurd (omega arith)
+
+    go : ((p < length line) × (verdictAt line p acknowledged ≡ wrong (NotAcknowledged p)))
+        ⊎ ((NotAcknowledged p ≡ LineLength (length line)) × (complete (frameBehind nothingSent [] line) ≡ false))
+        → (p < length line) × (getD line p 0 ≡ 1) × (length (frameTo line p) ≡ crcStart (frameTo line p) + 16)
+        × ((k : ℕ) → k < p → verdictAt line k own ≡ right)
+    go (inl (inside, met)) =
+        let told = unheard (runTo line p) (frameTo line p) p (getD line p 0) p acknowledged met in
+        (inside, told .1, told .3, left)
+    go (inr (end, more)) = let z : _≡_ {A = ℕ} 0 1 = cc in absurd (omega arith)
+
+pub own-heard : (line : List ℕ) (room p : ℕ) → readAnswer own line room ≡ Refused (NotAcknowledged p) → ⊥
+own-heard line room p e = go (problem-met own line (NotAcknowledged p) (bits-refused own line room (NotAcknowledged p) e (twenty p)))
+  where
+    go : ((p < length line) × (verdictAt line p own ≡ wrong (NotAcknowledged p)))
+        ⊎ ((NotAcknowledged p ≡ LineLength (length line)) × (complete (frameBehind nothingSent [] line) ≡ false)) → ⊥
+    go (inl (inside, met)) = let told = unheard (runTo line p) (frameTo line p) p (getD line p 0) p own met in omega (arith, told .2)
+    go (inr (end, more)) = let z : _≡_ {A = ℕ} 0 1 = cc in omega arith
