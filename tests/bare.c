@@ -12,7 +12,7 @@ __asm__(".globl _start\n_start: lea stack + 8192(%rip), %rsp\n call start\n");
 
 static uint8_t payload[PRUSHGOLI_PAYLOAD_MOST] = {0xF0}, field[PRUSHGOLI_FIELD_MOST], line[PRUSHGOLI_LINE_ROOM];
 
-/* Document 01's cases. */
+/* The documents' cases. */
 static int wrong_case(void)
 {
     if (prushgoli_encode(payload, 1, field, sizeof field) != 2 || field[0] != 0xEA || field[1] != 0x55) return 1;
@@ -21,8 +21,9 @@ static int wrong_case(void)
     if (prushgoli_frame_length(0, NULL, 0) != 50) return 3;
     if (prushgoli_frame_bounds(0x555, 1) != (UINT64_C(65) << 32 | 61)) return 4;
     if (prushgoli_make_frame(0, NULL, 0, line, sizeof line) != 50) return 5;
+    if (prushgoli_read_line(line, 50, NULL, 0) != (UINT64_C(20) << 16 | 41)) return 6;
     line[20] = 2;
-    if (prushgoli_read_line(line, 50, NULL, 0) != (UINT64_C(9) << 16 | 20)) return 6;
+    if (prushgoli_read_own_line(line, 50, NULL, 0) != (UINT64_C(9) << 16 | 20)) return 7;
     return 0;
 }
 
@@ -35,8 +36,11 @@ static int wrong_longest(void)
     uint64_t bounds = prushgoli_frame_bounds(2047, sizeof payload);
     if (bits < prushgoli_least(bounds) || bits > prushgoli_most(bounds)) return 4;
     if (prushgoli_make_frame(2047, payload, sizeof payload, line, sizeof line) != bits) return 5;
-    uint64_t read = prushgoli_read_line(line, bits, payload, sizeof payload);
-    return read == (UINT64_C(2047) << 32 | sizeof payload) ? 0 : 6;
+    uint64_t read = UINT64_C(2047) << 32 | sizeof payload;
+    if (prushgoli_read_own_line(line, bits, payload, sizeof payload) != read) return 7;
+    line[bits - 9] = 0; /* the ACK slot, as a receiver leaves it */
+    if (prushgoli_read_line(line, bits, payload, sizeof payload) != read) return 6;
+    return 0;
 }
 
 static long system_call(long number, long first, const void *second, long third)

@@ -1,5 +1,5 @@
 /* Compares the archive with the second program through the C interface: the whole answer, every byte of the lent
- * buffer and of the guards around it, and what was given. An answer of document 01 that is never reached is counted
+ * buffer and of the guards around it, and what was given. An answer of the documents that is never reached is counted
  * as a difference. */
 #define _DEFAULT_SOURCE
 #include "compare.h"
@@ -16,17 +16,22 @@
 enum { SECOND, ARCHIVE, PROGRAMS };
 enum { GUARD = 16, LENT = 128, BUFFER = GUARD + LENT + GUARD, MOST_DIFFERENCES = 10, REFUSALS = 32 };
 
-static const char *const calls[CALLS] = {"encode", "decode", "frame_length", "frame_bounds", "make_frame", "read_line"};
+static const char *const calls[CALLS] = {"encode",     "decode",    "frame_length", "frame_bounds",
+                                         "make_frame", "read_line", "read_own_line"};
 
-/* What document 01 lets each call answer: a bit for each refusal number, and bit 0 for acceptance. */
+/* What the documents let each call answer: a bit for each refusal number, and bit 0 for acceptance. */
+enum {
+    OF_A_FIELD = 1 << 0 | 1 << 2 | 1 << 3 | 1 << 4 | 1 << 5 | 1 << 6 | 1 << 7,
+    OF_A_LINE = OF_A_FIELD | 1 << 9 | 1 << 10 | 1 << 11 | 1 << 12 | 1 << 13
+};
 static const unsigned answers[CALLS] = {
     [ENCODE] = 1 << 0 | 1 << 1 | 1 << 2,
-    [DECODE] = 1 << 0 | 1 << 2 | 1 << 3 | 1 << 4 | 1 << 5 | 1 << 6 | 1 << 7,
+    [DECODE] = OF_A_FIELD,
     [FRAME_LENGTH] = 1 << 0 | 1 << 1 | 1 << 8,
     [FRAME_BOUNDS] = 1 << 0 | 1 << 1 | 1 << 8,
     [MAKE_FRAME] = 1 << 0 | 1 << 1 | 1 << 2 | 1 << 8,
-    [READ_LINE] = 1 << 0 | 1 << 2 | 1 << 3 | 1 << 4 | 1 << 5 | 1 << 6 | 1 << 7 | 1 << 9 | 1 << 10 | 1 << 11 | 1 << 12 |
-                  1 << 13,
+    [READ_LINE] = OF_A_LINE | 1 << 20,
+    [READ_OWN_LINE] = OF_A_LINE,
 };
 
 static unsigned long comparisons, differences, reached[CALLS][REFUSALS];
@@ -78,8 +83,10 @@ static uint64_t ask(int program, const uint8_t *given, uint8_t *lent)
     case MAKE_FRAME:
         return (archive ? prushgoli_make_frame : second_make_frame)(asked.identifier, given, asked.claimed, lent,
                                                                     asked.room);
-    default:
+    case READ_LINE:
         return (archive ? prushgoli_read_line : second_read_line)(given, asked.claimed, lent, asked.room);
+    default:
+        return (archive ? prushgoli_read_own_line : second_read_own_line)(given, asked.claimed, lent, asked.room);
     }
 }
 
@@ -191,13 +198,13 @@ void check(int holds, const char *fact)
 static void check_reached(void)
 {
     for (int call = 0; call < CALLS; call++) {
-        printf("%-12s  accepted %lu, refused", calls[call], reached[call][0]);
+        printf("%-13s  accepted %lu, refused", calls[call], reached[call][0]);
         for (int refusal = 0; refusal < REFUSALS; refusal++) {
             if (refusal > 0 && reached[call][refusal] > 0)
                 printf("  %d: %lu", refusal, reached[call][refusal]);
             if ((reached[call][refusal] > 0) != (answers[call] >> refusal & 1))
                 printf("  (difference %lu: %d is %s)", ++differences, refusal,
-                       reached[call][refusal] > 0 ? "no answer of document 01" : "never reached");
+                       reached[call][refusal] > 0 ? "no answer of the documents" : "never reached");
         }
         printf("\n");
     }

@@ -5,7 +5,7 @@
 #include <stddef.h>
 #include <stdint.h>
 
-enum call { ENCODE, DECODE, FRAME_LENGTH, FRAME_BOUNDS, MAKE_FRAME, READ_LINE, CALLS };
+enum call { ENCODE, DECODE, FRAME_LENGTH, FRAME_BOUNDS, MAKE_FRAME, READ_LINE, READ_OWN_LINE, CALLS };
 
 struct question {
     enum call call;

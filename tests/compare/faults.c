@@ -12,7 +12,10 @@ uint64_t ARCHIVE(decode)(const uint8_t *, size_t, uint8_t *, size_t);
 uint64_t ARCHIVE(frame_length)(uint32_t, const uint8_t *, size_t);
 uint64_t ARCHIVE(frame_bounds)(uint32_t, size_t);
 uint64_t ARCHIVE(make_frame)(uint32_t, const uint8_t *, size_t, uint8_t *, size_t);
-uint64_t ARCHIVE(read_line)(const uint8_t *, size_t, uint8_t *, size_t);
+
+/* The two calls that read a line. */
+typedef uint64_t reader(const uint8_t *, size_t, uint8_t *, size_t);
+reader ARCHIVE(read_line), ARCHIVE(read_own_line);
 
 static int fault(const char *name)
 {
@@ -101,8 +104,8 @@ static uint64_t make_unstuffed(uint32_t identifier, const uint8_t *payload, size
 }
 
 /* The answer to the line with the right stuff bit at this place, and its last ten bits behind, if that is accepted. */
-static uint64_t read_mended(uint64_t answer, const uint8_t *line, size_t line_len, size_t place, uint8_t *payload,
-                            size_t payload_room)
+static uint64_t read_mended(reader *read_line, uint64_t answer, const uint8_t *line, size_t line_len, size_t place,
+                            uint8_t *payload, size_t payload_room)
 {
     uint8_t mended[LINE_MOST];
     if (place == 0 || place + 1 + UNSTUFFED > LINE_MOST || !five_equal(line, place - 1))
@@ -110,13 +113,13 @@ static uint64_t read_mended(uint64_t answer, const uint8_t *line, size_t line_le
     memcpy(mended, line, place);
     mended[place] = !line[place - 1];
     memcpy(mended + place + 1, line + line_len - UNSTUFFED, UNSTUFFED);
-    uint64_t read = ARCHIVE(read_line)(mended, place + 1 + UNSTUFFED, payload, payload_room);
+    uint64_t read = read_line(mended, place + 1 + UNSTUFFED, payload, payload_room);
     return prushgoli_refusal(read) == PRUSHGOLI_ACCEPTED ? read : answer;
 }
 
 /* Faults at the stuff bit behind the CRC: the answer with the one that is wanted. */
-static uint64_t spoil_last_stuff_bit(uint64_t answer, const uint8_t *line, size_t line_len, uint8_t *payload,
-                                     size_t payload_room)
+static uint64_t spoil_last_stuff_bit(reader *read_line, uint64_t answer, const uint8_t *line, size_t line_len,
+                                     uint8_t *payload, size_t payload_room)
 {
     unsigned refusal = prushgoli_refusal(answer), place = prushgoli_place(answer);
     size_t stuff_bit = last_stuff_bit(answer, line, line_len);
@@ -126,10 +129,10 @@ static uint64_t spoil_last_stuff_bit(uint64_t answer, const uint8_t *line, size_
     if (fault("line without the stuff bit behind the CRC taken") && line_len > UNSTUFFED &&
         ((refusal == PRUSHGOLI_STUFF_BIT && place == line_len - UNSTUFFED) ||
          (refusal == PRUSHGOLI_LINE_LENGTH && place == line_len)))
-        return read_mended(answer, line, line_len, line_len - UNSTUFFED, payload, payload_room);
+        return read_mended(read_line, answer, line, line_len, line_len - UNSTUFFED, payload, payload_room);
     if (fault("stuff bit behind the CRC not looked at") && place + 1 + UNSTUFFED == line_len &&
         (refusal == PRUSHGOLI_STUFF_BIT || refusal == PRUSHGOLI_LINE_BYTE))
-        return read_mended(answer, line, line_len, place, payload, payload_room);
+        return read_mended(read_line, answer, line, line_len, place, payload, payload_room);
     if (fault("stuff bit judged before the CRC") && refusal == PRUSHGOLI_CRC && sixth_equal(line, line_len, place))
         return refused(PRUSHGOLI_STUFF_BIT, place + 1);
     return answer;
@@ -186,9 +189,11 @@ uint64_t SPOILED(make_frame)(uint32_t identifier, const uint8_t *payload, size_t
     return answer;
 }
 
-uint64_t SPOILED(read_line)(const uint8_t *line, size_t line_len, uint8_t *payload, size_t payload_room)
+/* Faults that both calls that read a line can have. */
+static uint64_t read_spoiled(reader *read_line, const uint8_t *line, size_t line_len, uint8_t *payload,
+                             size_t payload_room)
 {
-    uint64_t answer = ARCHIVE(read_line)(line, line_len, payload, payload_room);
+    uint64_t answer = read_line(line, line_len, payload, payload_room);
     unsigned refusal = prushgoli_refusal(answer), place = prushgoli_place(answer);
     /* Where the comparison claims more bytes behind a line, they are not there. */
     int few_behind = refusal == PRUSHGOLI_LINE_LENGTH && place < line_len && line_len - place <= 3;
@@ -199,11 +204,66 @@ uint64_t SPOILED(read_line)(const uint8_t *line, size_t line_len, uint8_t *paylo
     if (fault("identifier with a refusal") && refusal == PRUSHGOLI_PADDING)
         return answer | (uint64_t)0x555 << 32;
     if (fault("bit of 1 behind the line taken") && few_behind && line[place] == 1)
-        return ARCHIVE(read_line)(line, place, payload, payload_room);
+        return read_line(line, place, payload, payload_room);
     if (fault("byte above 1 behind the line judged") && few_behind && line[place] > 1)
         return refused(PRUSHGOLI_LINE_BYTE, place);
     if (fault("stuff bit judged before the DLC") && refusal == PRUSHGOLI_FIELD_LENGTH &&
         sixth_equal(line, line_len, place))
         return refused(PRUSHGOLI_STUFF_BIT, place + 1);
-    return spoil_last_stuff_bit(answer, line, line_len, payload, payload_room);
+    return spoil_last_stuff_bit(read_line, answer, line, line_len, payload, payload_room);
+}
+
+/* Whether the ACK slot is at this place: where the line ends there, with a 1, it is refused for that 1. */
+static int is_ack_slot(const uint8_t *line, size_t place)
+{
+    uint8_t start[LINE_MOST];
+    if (place >= LINE_MOST)
+        return 0;
+    memcpy(start, line, place);
+    start[place] = 1;
+    return ARCHIVE(read_line)(start, place + 1, NULL, 0) == refused(PRUSHGOLI_NOT_ACKNOWLEDGED, place);
+}
+
+/* Faults of the default call at the ACK slot: the answer with the one that is wanted. */
+static uint64_t spoil_ack_slot(uint64_t answer, const uint8_t *line, size_t line_len, size_t payload_room)
+{
+    unsigned refusal = prushgoli_refusal(answer), place = prushgoli_place(answer);
+    if (fault("20 before 9 at the ACK slot") && refusal == PRUSHGOLI_LINE_BYTE && is_ack_slot(line, place))
+        return refused(PRUSHGOLI_NOT_ACKNOWLEDGED, place);
+    if (fault("0 in the ACK slot refused by the default call") && refusal == PRUSHGOLI_ACCEPTED)
+        return refused(PRUSHGOLI_NOT_ACKNOWLEDGED, line_len - UNSTUFFED + 1);
+    if (refusal != PRUSHGOLI_NOT_ACKNOWLEDGED)
+        return answer;
+    if (fault("20 given as 13"))
+        return refused(PRUSHGOLI_FIXED_BIT, place);
+    if (fault("place of 20 one off"))
+        return answer + 1;
+    if (fault("ACK delimiter judged before the ACK slot") && place + 1 < line_len && line[place + 1] == 0)
+        return refused(PRUSHGOLI_FIXED_BIT, place + 1);
+    if (fault("ACK slot judged last")) {
+        uint8_t payload[PRUSHGOLI_PAYLOAD_MOST];
+        uint64_t own = ARCHIVE(read_own_line)(line, line_len, payload, payload_room);
+        return prushgoli_refusal(own) == PRUSHGOLI_ACCEPTED ? answer : own;
+    }
+    return answer;
+}
+
+uint64_t SPOILED(read_line)(const uint8_t *line, size_t line_len, uint8_t *payload, size_t payload_room)
+{
+    int as_before = fault("1 in the ACK slot taken by the default call") || fault("default and own call swapped");
+    reader *read_line = as_before ? ARCHIVE(read_own_line) : ARCHIVE(read_line);
+    uint64_t answer = read_spoiled(read_line, line, line_len, payload, payload_room);
+    return spoil_ack_slot(answer, line, line_len, payload_room);
+}
+
+uint64_t SPOILED(read_own_line)(const uint8_t *line, size_t line_len, uint8_t *payload, size_t payload_room)
+{
+    int as_default = fault("1 in the ACK slot refused by the own call") || fault("default and own call swapped");
+    reader *read_line = as_default ? ARCHIVE(read_line) : ARCHIVE(read_own_line);
+    uint64_t answer = read_spoiled(read_line, line, line_len, payload, payload_room);
+    size_t ack_slot = line_len - UNSTUFFED + 1;
+    if (fault("0 in the ACK slot refused by the own call") && prushgoli_refusal(answer) == PRUSHGOLI_ACCEPTED &&
+        line[ack_slot] == 0)
+        return refused(PRUSHGOLI_NOT_ACKNOWLEDGED, ack_slot);
+    return answer;
 }

@@ -50,6 +50,12 @@ static struct slice cut(struct slice line, size_t length)
     return line;
 }
 
+static struct slice followed_by(struct slice line, uint8_t byte)
+{
+    line.byte[line.length++] = byte;
+    return line;
+}
+
 static void codes_as(const char *payload_digits, const char *field_digits)
 {
     struct slice payload = bytes(payload_digits), field = bytes(field_digits);
@@ -62,6 +68,27 @@ static void codes_as(const char *payload_digits, const char *field_digits)
 static void refuses(enum call call, struct slice given, size_t room, enum refusal refusal, size_t place)
 {
     expect(question(call, 0, given.byte, given.length, room), refused(refusal, place), NULL, 0);
+}
+
+/* Both calls that read a line refuse it alike. */
+static void both_refuse(struct slice line, enum refusal refusal, size_t place)
+{
+    refuses(READ_LINE, line, 8, refusal, place);
+    refuses(READ_OWN_LINE, line, 8, refusal, place);
+}
+
+/* A line of identifier 0 that is right but for what is in its ACK slot: 0 is taken by both calls, 1 by one of them. */
+static void reads_as(struct slice line, struct slice payload)
+{
+    size_t ack_slot = line.length - 9;
+    for (uint8_t ack = 0; ack <= 1; ack++) {
+        struct slice with_ack = with(line, ack_slot, ack);
+        uint64_t read = accepted(payload.length, 0), unheard = refused(NOT_ACKNOWLEDGED, ack_slot);
+        expect(question(READ_LINE, 0, with_ack.byte, with_ack.length, payload.length), ack == 0 ? read : unheard,
+               payload.byte, ack == 0 ? payload.length : 0);
+        expect(question(READ_OWN_LINE, 0, with_ack.byte, with_ack.length, payload.length), read, payload.byte,
+               payload.length);
+    }
 }
 
 static void bounds(uint32_t identifier, size_t size, uint64_t answer)
@@ -110,10 +137,7 @@ static void frames(void)
     expect(question(FRAME_LENGTH, 0, NULL, 0, 0), accepted(50, 0), NULL, 0);
     expect(question(MAKE_FRAME, 0, NULL, 0, 115), refused(ROOM_SHORT, 0), NULL, 0);
     expect(question(MAKE_FRAME, 0, NULL, 0, 116), accepted(50, 0), line.byte, 50);
-    expect(question(READ_LINE, 0, line.byte, 50, 0), accepted(0, 0), NULL, 0);
-    expect(question(READ_LINE, 0, line.byte, 51, 0), refused(WRONG_LINE_LENGTH, 50), NULL, 0);
-    line.byte[50] = 2;
-    expect(question(READ_LINE, 0, line.byte, 51, 0), refused(WRONG_LINE_LENGTH, 50), NULL, 0);
+    reads_as(line, bytes(""));
     bounds(0x555, 1, accepted(61, 65));
     bounds(0x555, 7, accepted(108, 112));
     bounds(0, 1, accepted(63, 67));
@@ -126,33 +150,65 @@ static void frames(void)
 
 static void lines(void)
 {
-    refuses(READ_LINE, bits("0 10101010100 000 1 1111 1"), 8, WRONG_FIELD_LENGTH, 19);
-    refuses(READ_LINE, bits("0 10101011000 0 0 0"), 8, SIXTH_EQUAL_BIT, 14);
-    refuses(READ_LINE, bits(""), 8, WRONG_LINE_LENGTH, 0);
-    refuses(READ_LINE, bits("0 0 0 0 0"), 8, WRONG_LINE_LENGTH, 5);
-    refuses(READ_LINE, bits("1"), 8, WRONG_FIXED_BIT, 0);
-    refuses(READ_LINE, bits("2"), 8, LINE_BYTE_ABOVE_1, 0);
+    both_refuse(bits("0 10101010100 000 1 1111 1"), WRONG_FIELD_LENGTH, 19);
+    both_refuse(bits("0 10101011000 0 0 0"), SIXTH_EQUAL_BIT, 14);
+    both_refuse(bits(""), WRONG_LINE_LENGTH, 0);
+    both_refuse(bits("0 0 0 0 0"), WRONG_LINE_LENGTH, 5);
+    both_refuse(bits("1"), WRONG_FIXED_BIT, 0);
+    both_refuse(bits("2"), LINE_BYTE_ABOVE_1, 0);
 }
 
-/* A frame of identifier 0 and 65 bits: the last CRC bit is at 53, a stuff bit at 54, the CRC delimiter at 55. */
+/* A line that is refused behind its ACK slot: with 1 there, the default call says so first. */
+static void refused_behind(struct slice line, size_t ack_slot, enum refusal refusal, size_t place)
+{
+    both_refuse(with(line, ack_slot, 0), refusal, place);
+    refuses(READ_OWN_LINE, with(line, ack_slot, 1), 8, refusal, place);
+    refuses(READ_LINE, with(line, ack_slot, 1), 8, NOT_ACKNOWLEDGED, ack_slot);
+}
+
+/* Identifier 0, empty payload, 50 bits: the CRC delimiter is at 40, the ACK slot at 41, the ACK delimiter at 42. */
+static void ack_slots(void)
+{
+    struct slice unheard = bits("00000 1 00000 1 00000 1 0000  0 1 00000 1 00000 1 0000  1 1 1 1111111");
+    for (uint8_t ack = 0; ack <= 1; ack++) {
+        struct slice line = with(unheard, 41, ack);
+        both_refuse(cut(line, 40), WRONG_LINE_LENGTH, 40);
+        both_refuse(with(line, 40, 2), LINE_BYTE_ABOVE_1, 40);
+        both_refuse(with(line, 40, 0), WRONG_FIXED_BIT, 40);
+        both_refuse(cut(line, 41), WRONG_LINE_LENGTH, 41);
+    }
+    both_refuse(with(unheard, 41, 2), LINE_BYTE_ABOVE_1, 41);
+    both_refuse(with(unheard, 41, 255), LINE_BYTE_ABOVE_1, 41);
+    refused_behind(cut(unheard, 42), 41, WRONG_LINE_LENGTH, 42);
+    refused_behind(with(unheard, 42, 2), 41, LINE_BYTE_ABOVE_1, 42);
+    refused_behind(with(unheard, 42, 0), 41, WRONG_FIXED_BIT, 42);
+    refused_behind(with(unheard, 49, 0), 41, WRONG_FIXED_BIT, 49);
+    refused_behind(followed_by(unheard, 0), 41, WRONG_LINE_LENGTH, 50);
+    refused_behind(followed_by(unheard, 2), 41, WRONG_LINE_LENGTH, 50);
+}
+
+/* A frame of identifier 0 and 65 bits: the last CRC bit is at 53, a stuff bit at 54, the CRC delimiter at 55, the ACK
+ * slot at 56. */
 static void stuffed_behind_the_crc(struct slice payload, struct slice line)
 {
     uint8_t sixth = line.byte[53];
     struct slice wrong_crc = with(line, 34, !line.byte[34]); /* a data bit, in no run of five either way */
     expect(question(FRAME_LENGTH, 0, payload.byte, 1, 0), accepted(65, 0), NULL, 0);
     expect(question(MAKE_FRAME, 0, payload.byte, 1, 116), accepted(65, 0), line.byte, 65);
-    expect(question(READ_LINE, 0, line.byte, 65, 1), accepted(1, 0), payload.byte, 1);
-    refuses(READ_LINE, cut(line, 54), 8, WRONG_LINE_LENGTH, 54);
-    refuses(READ_LINE, with(line, 54, 2), 8, LINE_BYTE_ABOVE_1, 54);
-    refuses(READ_LINE, with(line, 54, sixth), 8, SIXTH_EQUAL_BIT, 54);
-    refuses(READ_LINE, cut(line, 55), 8, WRONG_LINE_LENGTH, 55);
-    refuses(READ_LINE, with(line, 55, 2), 8, LINE_BYTE_ABOVE_1, 55);
-    refuses(READ_LINE, with(line, 55, 0), 8, WRONG_FIXED_BIT, 55);
-    refuses(READ_LINE, cut(line, 64), 8, WRONG_LINE_LENGTH, 64);
-    refuses(READ_LINE, wrong_crc, 8, CRC_DIFFERS, 53);
-    refuses(READ_LINE, cut(wrong_crc, 54), 8, CRC_DIFFERS, 53);
-    refuses(READ_LINE, with(wrong_crc, 54, 2), 8, CRC_DIFFERS, 53);
-    refuses(READ_LINE, with(wrong_crc, 54, sixth), 8, CRC_DIFFERS, 53);
+    reads_as(line, payload);
+    refuses(READ_OWN_LINE, line, 0, ROOM_SHORT, 0);
+    refuses(READ_LINE, line, 0, NOT_ACKNOWLEDGED, 56);
+    both_refuse(cut(line, 54), WRONG_LINE_LENGTH, 54);
+    both_refuse(with(line, 54, 2), LINE_BYTE_ABOVE_1, 54);
+    both_refuse(with(line, 54, sixth), SIXTH_EQUAL_BIT, 54);
+    both_refuse(cut(line, 55), WRONG_LINE_LENGTH, 55);
+    both_refuse(with(line, 55, 2), LINE_BYTE_ABOVE_1, 55);
+    both_refuse(with(line, 55, 0), WRONG_FIXED_BIT, 55);
+    refused_behind(cut(line, 64), 56, WRONG_LINE_LENGTH, 64);
+    both_refuse(wrong_crc, CRC_DIFFERS, 53);
+    both_refuse(cut(wrong_crc, 54), CRC_DIFFERS, 53);
+    both_refuse(with(wrong_crc, 54, 2), CRC_DIFFERS, 53);
+    both_refuse(with(wrong_crc, 54, sixth), CRC_DIFFERS, 53);
 }
 
 /* A CRC that ends in five 1s, one that ends in five 0s, and what is said where the stuff bit is missing. */
@@ -163,9 +219,10 @@ static void last_stuff_bits(void)
     struct slice missing = without(zeros, 54);
     stuffed_behind_the_crc(bytes("77"), ones);
     stuffed_behind_the_crc(bytes("5F"), zeros);
-    refuses(READ_LINE, without(ones, 54), 8, SIXTH_EQUAL_BIT, 54);
-    refuses(READ_LINE, missing, 8, WRONG_LINE_LENGTH, 64);
-    refuses(READ_LINE, with(missing, 55, 0), 8, WRONG_FIXED_BIT, 55); /* its ACK slot stands where a delimiter must */
+    both_refuse(without(ones, 54), SIXTH_EQUAL_BIT, 54);
+    refuses(READ_OWN_LINE, missing, 8, WRONG_LINE_LENGTH, 64);
+    refuses(READ_LINE, missing, 8, NOT_ACKNOWLEDGED, 56); /* its ACK delimiter stands where the ACK slot must */
+    both_refuse(with(missing, 55, 0), WRONG_FIXED_BIT, 55); /* its ACK slot stands where a delimiter must */
 }
 
 /* 115 bits: three stuff bits in the header, four in the CRC, the last of them behind it. */
@@ -177,7 +234,7 @@ static void longest_frame(void)
     expect(question(FRAME_LENGTH, 0, payload.byte, 7, 0), accepted(115, 0), NULL, 0);
     expect(question(MAKE_FRAME, 0, payload.byte, 7, 115), refused(ROOM_SHORT, 0), NULL, 0);
     expect(question(MAKE_FRAME, 0, payload.byte, 7, 116), accepted(115, 0), line.byte, 115);
-    expect(question(READ_LINE, 0, line.byte, 115, 7), accepted(7, 0), payload.byte, 7);
+    reads_as(line, payload);
 }
 
 static void crc(void)
@@ -194,6 +251,7 @@ void ask_known(void)
     fields();
     frames();
     lines();
+    ack_slots();
     last_stuff_bits();
     longest_frame();
     crc();

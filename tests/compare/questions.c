@@ -52,9 +52,32 @@ static struct row row_of(const uint8_t *byte, size_t count)
     return row;
 }
 
+/* Both calls that read a line are asked. */
+static void ask_readers(const struct row *line, size_t claimed, size_t room, int lend_null)
+{
+    for (enum call call = READ_LINE; call <= READ_OWN_LINE; call++)
+        compare((struct question){call, 0, line->bit, line->length, claimed, room, lend_null});
+}
+
 static void read_row(const struct row *line, size_t room)
 {
-    compare(question(READ_LINE, 0, line->bit, line->length, room));
+    ask_readers(line, line->length, room, 0);
+}
+
+/* A whole line as the maker leaves it, with 1 in the ACK slot, or as a receiver on the bus does, with 0. */
+static struct row with_ack(struct row line, int ack)
+{
+    size_t crc_delimiter = line.length - UNSTUFFED;
+    line.bit[crc_delimiter + 1] = (uint8_t)ack;
+    return line;
+}
+
+static void read_with_either_ack(const struct row *line, size_t room)
+{
+    for (int ack = 0; ack <= 1; ack++) {
+        struct row other = with_ack(*line, ack);
+        read_row(&other, room);
+    }
 }
 
 /* All payloads of 0, 1 and 2 bytes and their fields, with room that is short, exact and more; all fields as short. */
@@ -136,11 +159,11 @@ static void all_identifiers(void)
         }
         for (size_t size = 0; size <= MOST_PAYLOAD; size++) {
             struct row line = line_of_payload(identifier, byte, size);
-            read_row(&line, size);
+            read_with_either_ack(&line, size);
         }
         for (unsigned dlc = 0; dlc <= 15; dlc++) {
             struct row field = row_of(byte, dlc < 8 ? dlc : 8), line = line_of(identifier, dlc, &field);
-            read_row(&line, random_room());
+            read_with_either_ack(&line, random_room());
             line.length = 14 + random_below(10);
             read_row(&line, random_room());
         }
@@ -177,30 +200,29 @@ static struct row changed(struct row line, enum change change, size_t place)
     return line;
 }
 
-/* A line with each room and either ACK, with bits behind it, and with every change at every place. */
-static void ask_around(const struct row *line)
+/* A byte of a line: a bit, or more than 1. */
+static const uint8_t bytes[] = {0, 1, 2, 255};
+
+/* A line with each room, with bits behind it, and with every change at every place. */
+static void ask_around(struct row line)
 {
-    static const int behind[] = {0, 1, 2, 255};
-    struct row other_ack = changed(*line, FLIP, line->length - 9);
-    for (size_t room = 0; room <= 8; room++) {
-        read_row(line, room);
-        read_row(&other_ack, room);
-    }
-    for (size_t i = 0; i < COUNT(behind); i++) {
-        struct row longer = *line;
+    for (size_t room = 0; room <= 8; room++)
+        read_row(&line, room);
+    for (size_t i = 0; i < COUNT(bytes); i++) {
+        struct row longer = line;
         for (int count = 1; count <= 3; count++) {
-            append(&longer, behind[i]);
+            append(&longer, bytes[i]);
             read_row(&longer, random_room());
         }
     }
-    for (size_t place = 0; place < line->length; place++)
+    for (size_t place = 0; place < line.length; place++)
         for (int change = 0; change < CHANGES; change++) {
-            struct row other = changed(*line, change, place);
+            struct row other = changed(line, change, place);
             read_row(&other, random_room());
         }
 }
 
-/* Lines of all sizes with payloads of 00, of FF and of any bytes. */
+/* Lines of all sizes with payloads of 00, of FF and of any bytes, and with either ACK. */
 static void changed_lines(void)
 {
     for (size_t size = 0; size <= MOST_PAYLOAD; size++)
@@ -210,7 +232,37 @@ static void changed_lines(void)
             for (size_t byte = 0; byte < size && i % 3 < 2; byte++)
                 payload[byte] = i % 3 == 0 ? 0x00 : 0xFF;
             struct row line = line_of_payload(i < FEW ? identifiers[i] : random_identifier(), payload, size);
-            ask_around(&line);
+            for (int ack = 0; ack <= 1; ack++)
+                ask_around(with_ack(line, ack));
+        }
+}
+
+/* A line with each of the four bytes as CRC delimiter, as ACK slot and as ACK delimiter: cut before these three and
+ * behind each of them, whole, and with a bit too many. */
+static void ask_around_ack_slot(struct row line)
+{
+    size_t whole = line.length, crc_delimiter = whole - UNSTUFFED;
+    for (unsigned three = 0; three < 64; three++) {
+        for (int i = 0; i < 3; i++)
+            line.bit[crc_delimiter + i] = bytes[three >> 2 * i & 3];
+        for (line.length = crc_delimiter; line.length <= crc_delimiter + 3; line.length++)
+            read_row(&line, random_room());
+        for (line.length = whole; line.length <= whole + 1; line.length++)
+            read_row(&line, random_room());
+    }
+}
+
+/* Lines of all sizes. In one of three a bit of the data field is wrong: its refusal must come after the ACK slot's. */
+static void ack_slots(void)
+{
+    for (size_t size = 0; size <= MOST_PAYLOAD; size++)
+        for (int i = 0; i < 45; i++) {
+            uint8_t payload[MOST_PAYLOAD];
+            random_bytes(payload, size);
+            struct row field = field_of_payload(payload, size);
+            if (i % 3 == 0 && size > 0)
+                field.bit[random_below(field.length)] ^= 1;
+            ask_around_ack_slot(line_of(random_identifier(), (unsigned)field_bytes(size), &field));
         }
 }
 
@@ -226,14 +278,15 @@ static struct row stuffed_behind_the_crc(uint32_t *identifier, uint8_t *payload,
     return line;
 }
 
-/* Such frames, their lines with every change from the last CRC bit to the ACK slot, and with one more before it. */
+/* Such frames, their lines with either ACK, with every change from the last CRC bit to the ACK slot, and with one more
+ * before it. */
 static void last_stuff_bits(void)
 {
     for (int i = 0; i < 4000; i++) {
         uint8_t payload[MOST_PAYLOAD];
         uint32_t identifier;
         size_t size = i % (MOST_PAYLOAD + 1);
-        struct row line = stuffed_behind_the_crc(&identifier, payload, size);
+        struct row line = with_ack(stuffed_behind_the_crc(&identifier, payload, size), i / (MOST_PAYLOAD + 1) % 2);
         size_t stuff_bit = line.length - 11, delimiter = stuff_bit + 1;
         compare(question(FRAME_LENGTH, identifier, payload, size, 0));
         compare(question(MAKE_FRAME, identifier, payload, size, 116));
@@ -244,17 +297,18 @@ static void last_stuff_bits(void)
                 read_row(&twice, random_room());
             }
         if (i % 50 == 0)
-            ask_around(&line);
+            ask_around(line);
     }
 }
 
-/* Lines with a right CRC over any data field, then changed up to three times. */
+/* Lines with a right CRC over any data field, three of four acknowledged, then changed up to three times. */
 static void random_lines(void)
 {
     for (int i = 0; i < 300000; i++) {
         uint8_t byte[9];
         size_t n = random_field(byte);
-        struct row field = row_of(byte, n < 8 ? n : 8), line = line_of(random_identifier(), (unsigned)n, &field);
+        struct row field = row_of(byte, n < 8 ? n : 8);
+        struct row line = with_ack(line_of(random_identifier(), (unsigned)n, &field), i % 4 == 0);
         read_row(&line, random_room());
         for (uint64_t changes = random_below(4); changes > 0 && line.length > 0; changes--)
             line = changed(line, random_below(CHANGES), random_below(line.length));
@@ -283,7 +337,7 @@ static void any_rows(void)
 static void large_numbers(void)
 {
     static const uint8_t byte[8] = {0x90, 0xC8, 0x64, 0x32, 0x19, 0x0C, 0x86, 0x43};
-    struct row field = row_of(byte, 8), line = line_of(0x555, 8, &field);
+    struct row field = row_of(byte, 8), line = with_ack(line_of(0x555, 8, &field), 0);
     for (size_t l = 0; l < COUNT(large); l++) {
         size_t claimed = large[l], longer = claimed > SIZE_MAX / 2 ? claimed : line.length + claimed;
         for (uint32_t identifier = 2047; identifier <= 2048; identifier++) {
@@ -298,8 +352,8 @@ static void large_numbers(void)
         if (claimed > MOST_FIELD)
             compare((struct question){DECODE, 0, byte, 8, claimed, 8, 0});
         compare(question(DECODE, 0, byte, 8, claimed));
-        compare((struct question){READ_LINE, 0, line.bit, line.length, longer, 8, 0});
-        compare(question(READ_LINE, 0, line.bit, line.length, claimed));
+        ask_readers(&line, longer, 8, 0);
+        read_row(&line, claimed);
     }
 }
 
@@ -307,8 +361,8 @@ static void large_numbers(void)
 static void nulls(void)
 {
     static const uint8_t byte[2] = {0xEA, 0x55};
-    struct row field = row_of(byte, 2), empty = {.length = 0}, line = line_of(0, 2, &field);
-    struct row empty_line = line_of(0, 0, &empty);
+    struct row field = row_of(byte, 2), empty = {.length = 0}, line = with_ack(line_of(0, 2, &field), 0);
+    struct row empty_line = with_ack(line_of(0, 0, &empty), 0);
     for (int call = 0; call < CALLS; call++)
         for (int lend_null = 0; lend_null <= 1; lend_null++) {
             size_t room = lend_null ? 0 : 116;
@@ -317,8 +371,8 @@ static void nulls(void)
             compare((struct question){call, 0, byte, 2, 2, room, lend_null});
             compare((struct question){call, 2048, NULL, 0, 0, room, lend_null});
         }
-    compare((struct question){READ_LINE, 0, line.bit, line.length, line.length, 0, 1});
-    compare((struct question){READ_LINE, 0, empty_line.bit, empty_line.length, empty_line.length, 0, 1});
+    ask_readers(&line, line.length, 0, 1);
+    ask_readers(&empty_line, empty_line.length, 0, 1);
 }
 
 void ask_many(void)
@@ -329,6 +383,7 @@ void ask_many(void)
     all_identifiers();
     any_rows();
     changed_lines();
+    ack_slots();
     last_stuff_bits();
     small_payloads_and_fields();
     random_payloads_and_fields();

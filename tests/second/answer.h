@@ -1,4 +1,4 @@
-/* Answers: the refusal numbers of document 01, and how an answer is packed into 64 bits. */
+/* Answers: the refusal numbers of documents 01 and 02, and how an answer is packed into 64 bits. */
 #ifndef ANSWER_H
 #define ANSWER_H
 
@@ -19,7 +19,8 @@ enum refusal {
     SIXTH_EQUAL_BIT = 10,
     WRONG_LINE_LENGTH = 11,
     CRC_DIFFERS = 12,
-    WRONG_FIXED_BIT = 13
+    WRONG_FIXED_BIT = 13,
+    NOT_ACKNOWLEDGED = 20
 };
 
 static inline uint64_t refused(enum refusal refusal, size_t place)

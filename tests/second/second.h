@@ -1,5 +1,5 @@
-/* The second program: document 01 as #102 of 02 has it, once more, in plain C, with one array cell for each bit.
- * The calls have the parameters and the packed answer of prushgoli.h, so that both can be asked the same. */
+/* The second program: document 01 as #102 and #109 of 02 have it, once more, in plain C, with one array cell for each
+ * bit. The calls have the parameters and the packed answer of prushgoli.h, so that both can be asked the same. */
 #ifndef SECOND_H
 #define SECOND_H
 
@@ -13,5 +13,6 @@ uint64_t second_frame_bounds(uint32_t identifier, size_t payload_len);
 uint64_t second_make_frame(uint32_t identifier, const uint8_t *payload, size_t payload_len, uint8_t *line,
                            size_t line_room);
 uint64_t second_read_line(const uint8_t *line, size_t line_len, uint8_t *payload, size_t payload_room);
+uint64_t second_read_own_line(const uint8_t *line, size_t line_len, uint8_t *payload, size_t payload_room);
 
 #endif
