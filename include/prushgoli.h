@@ -6,8 +6,8 @@
  *
  *     bits  0 to 15    a length (accepted), or the place (refused)
  *     bits 16 to 31    the number of the refusal, 0 when accepted
- *     bits 32 to 63    when accepted: the identifier (prushgoli_read_line), the longer bound (prushgoli_frame_bounds);
- *                      else 0
+ *     bits 32 to 63    when accepted: the identifier (prushgoli_read_line, prushgoli_read_own_line), the longer bound
+ *                      (prushgoli_frame_bounds); else 0
  *
  * The helpers at the end take it apart:
  *
@@ -58,7 +58,8 @@ enum {
     PRUSHGOLI_LINE_LENGTH = 11,     /* line ends too early: its length; bits after the last end bit: first of them */
     PRUSHGOLI_CRC = 12,             /* CRC differs: last CRC bit */
     PRUSHGOLI_FIXED_BIT = 13,       /* start, RTR, IDE, reserved bit, a delimiter or an end bit is wrong: that bit */
-    PRUSHGOLI_RECORD = 14           /* trace record of unknown kind, or its body cut: offset of its kind byte */
+    PRUSHGOLI_RECORD = 14,          /* trace record of unknown kind, or its body cut: offset of its kind byte */
+    PRUSHGOLI_NOT_ACKNOWLEDGED = 20 /* a 1 in the ACK slot, nobody heard the frame: that bit */
 };
 
 /*
@@ -95,7 +96,8 @@ uint64_t prushgoli_frame_bounds(uint32_t identifier, size_t payload_len);
 
 /*
  * Makes the line of a frame: one byte, 0 or 1, for each bit, in the order sent, stuffed to the last CRC bit as in
- * ISO 11898-1; the ACK slot is 1. Length: its bits, as prushgoli_frame_length tells.
+ * ISO 11898-1; the ACK slot is 1, as a sender leaves it: prushgoli_read_own_line reads it back. Length: its bits, as
+ * prushgoli_frame_length tells.
  * Room: PRUSHGOLI_LINE_ROOM for every frame, short or long.
  * Refusals, in this order: 8, 1, 2; place 0.
  */
@@ -103,15 +105,24 @@ uint64_t prushgoli_make_frame(uint32_t identifier, const uint8_t *payload, size_
                               size_t line_room);
 
 /*
- * Reads the line of a frame, its bits as prushgoli_make_frame writes them; the ACK slot may be 0 or 1. Length: the
- * payload's bytes; prushgoli_identifier: the identifier.
+ * Reads the line of a frame from a live bus: its bits as prushgoli_make_frame writes them, but 0 in the ACK slot. A 1
+ * there is refused, since it means that nobody heard the frame. A line of prushgoli_make_frame, unheard, is therefore
+ * refused too, and is read with prushgoli_read_own_line. (Before change request #109 this call took 0 or 1.)
+ * Length: the payload's bytes; prushgoli_identifier: the identifier.
  * Room: the payload's bytes; PRUSHGOLI_PAYLOAD_MOST is enough for all.
  * Refusals: the first problem met from the left, and nothing to its right is looked at. At one bit the order is 11, 9,
- * 10, 13; 3 comes with the fourth DLC bit and 12 with the last CRC bit, each after 11, 9 and 10 there and before a stuff
- * bit behind it; bits too many, 11, come after the last end bit. Then 2, and 4 to 7 of the data field, in the order and with the places that
- * prushgoli_decode gives.
+ * 10, 13 or, in the ACK slot, 20; 3 comes with the fourth DLC bit and 12 with the last CRC bit, each after 11, 9 and 10
+ * there and before a stuff bit behind it; bits too many, 11, come after the last end bit. Then 2, and 4 to 7 of the
+ * data field, in the order and with the places that prushgoli_decode gives.
  */
 uint64_t prushgoli_read_line(const uint8_t *line, size_t line_len, uint8_t *payload, size_t payload_room);
+
+/*
+ * Reads a line of our own prushgoli_make_frame, heard or not: the ACK slot may be 0 or 1. Length, identifier and room
+ * are those of prushgoli_read_line.
+ * Refusals: those of prushgoli_read_line, in its order, without 20.
+ */
+uint64_t prushgoli_read_own_line(const uint8_t *line, size_t line_len, uint8_t *payload, size_t payload_room);
 
 /* The number of the refusal, PRUSHGOLI_ACCEPTED if there is none. */
 static inline unsigned prushgoli_refusal(uint64_t a)
@@ -131,7 +142,7 @@ static inline unsigned prushgoli_length(uint64_t a)
     return prushgoli_refusal(a) == PRUSHGOLI_ACCEPTED ? (unsigned)(a & 0xFFFF) : 0;
 }
 
-/* Of prushgoli_read_line: the identifier; 0 when refused. */
+/* Of prushgoli_read_line and prushgoli_read_own_line: the identifier; 0 when refused. */
 static inline uint32_t prushgoli_identifier(uint64_t a)
 {
     return (uint32_t)(a >> 32);
@@ -168,6 +179,7 @@ static inline const char *prushgoli_reason(unsigned refusal)
     case PRUSHGOLI_CRC: return "CRC differs";
     case PRUSHGOLI_FIXED_BIT: return "a fixed bit is wrong";
     case PRUSHGOLI_RECORD: return "trace record of unknown kind, or its body cut";
+    case PRUSHGOLI_NOT_ACKNOWLEDGED: return "1 in the ACK slot: nobody heard the frame";
     default: return "unknown refusal";
     }
 }

@@ -10,6 +10,9 @@
 
 enum { NET_WEIGHT = 0x155, WEIGHT_BYTES = 4 };
 
+/* The ACK slot, the ACK delimiter and seven end bits end a line. */
+enum { FROM_ACK_SLOT = 9 };
+
 /* As in the registers of a controller, or SocketCAN's struct can_frame. */
 struct mailbox {
     uint32_t identifier;
@@ -72,24 +75,43 @@ static bool print_label(const struct mailbox *box)
     return true;
 }
 
-/* What a recorder sees on the wire, and reads from it. */
-static bool record(const uint8_t *payload)
+/* The frame as the wire has it, bit by bit: its length in bits, 0 where it is refused. */
+static size_t print_line(const uint8_t *payload, uint8_t *line, size_t room)
 {
-    uint8_t line[PRUSHGOLI_LINE_ROOM] = {0}, read[PRUSHGOLI_PAYLOAD_MOST] = {0};
     uint64_t told = prushgoli_frame_length(NET_WEIGHT, payload, WEIGHT_BYTES);
-    uint64_t made = prushgoli_make_frame(NET_WEIGHT, payload, WEIGHT_BYTES, line, sizeof line);
+    uint64_t made = prushgoli_make_frame(NET_WEIGHT, payload, WEIGHT_BYTES, line, room);
     if (!accepted("wire", told) || !accepted("wire", made))
-        return false;
+        return 0;
     printf("wire: %u bits\nwire: ", prushgoli_length(told));
     for (size_t i = 0; i < prushgoli_length(made); i++)
         putchar('0' + line[i]);
     putchar('\n');
-    uint64_t answer = prushgoli_read_line(line, prushgoli_length(made), read, sizeof read);
-    if (!accepted("recorder", answer))
+    return prushgoli_length(made);
+}
+
+static bool print_read(const char *who, uint64_t answer, const uint8_t *payload)
+{
+    if (!accepted(who, answer))
         return false;
-    printf("recorder: identifier %03" PRIX32, prushgoli_identifier(answer));
-    print_bytes(", payload", read, prushgoli_length(answer));
+    printf("%s: identifier %03" PRIX32, who, prushgoli_identifier(answer));
+    print_bytes(", payload", payload, prushgoli_length(answer));
     return true;
+}
+
+/*
+ * A line that we made ourselves has 1 in its ACK slot, since nobody heard it yet: prushgoli_read_own_line takes it. A
+ * recorder on the bus asks prushgoli_read_line, which refuses it until a receiver, the labeller, sets the slot to 0.
+ */
+static bool record(const uint8_t *payload)
+{
+    uint8_t line[PRUSHGOLI_LINE_ROOM] = {0}, read[PRUSHGOLI_PAYLOAD_MOST] = {0};
+    size_t bits = print_line(payload, line, sizeof line);
+    if (bits == 0 || !print_read("self-test", prushgoli_read_own_line(line, bits, read, sizeof read), read))
+        return false;
+    if (print_read("recorder, labeller off", prushgoli_read_line(line, bits, read, sizeof read), read))
+        return false;
+    line[bits - FROM_ACK_SLOT] = 0;
+    return print_read("recorder, labeller on", prushgoli_read_line(line, bits, read, sizeof read), read);
 }
 
 int main(void)
