@@ -1,5 +1,5 @@
 /* The counted calls: on each content every program is asked the same, between two marks. What is executed there beside
- * the call is known from a program of one instruction. The plain C and the archive must do the same. */
+ * the call is known from a program of one instruction. The plain C and the archive must do the same, and accept. */
 #define _DEFAULT_SOURCE
 #include <prushgoli.h>
 #include <stdio.h>
@@ -11,15 +11,15 @@
 #include "plain.h"
 #include "random.h"
 
-enum { CONTENTS = 1000, LENT = 128 };
-enum call { ENCODE, DECODE, FRAME_LENGTH, MAKE_FRAME, READ_LINE };
+enum { CONTENTS = 1000, LENT = 128, FROM_ACK_SLOT = 9 /* bits to the end of a line */ };
+enum call { ENCODE, DECODE, FRAME_LENGTH, MAKE_FRAME, READ_LINE, READ_OWN_LINE };
 
 typedef uint64_t from_bytes(const uint8_t *, size_t, uint8_t *, size_t);
 typedef uint64_t length_of(uint32_t, const uint8_t *, size_t);
 typedef uint64_t line_of(uint32_t, const uint8_t *, size_t, uint8_t *, size_t);
 
 struct program {
-    from_bytes *encode, *decode, *read_line;
+    from_bytes *encode, *decode, *read_line, *read_own_line;
     length_of *frame_length;
     line_of *make_frame;
 };
@@ -32,8 +32,11 @@ __asm__("one: ret\n"
         "jnz 1b\n"
         "ret\n");
 
-#define ALL(name) {name##_encode, name##_decode, name##_read_line, name##_frame_length, name##_make_frame}
-#define EACH(code) {(from_bytes *)code, (from_bytes *)code, (from_bytes *)code, (length_of *)code, (line_of *)code}
+#define ALL(name)                                                                                                      \
+    {name##_encode,        name##_decode,       name##_read_line,                                                      \
+     name##_read_own_line, name##_frame_length, name##_make_frame}
+#define EACH(code)                                                                                                     \
+    {(from_bytes *)code, (from_bytes *)code, (from_bytes *)code, (from_bytes *)code, (length_of *)code, (line_of *)code}
 
 /* NONE is in the mark before a call. */
 enum { NONE, ONE, KNOWN, PLAIN, ARCHIVE, PROGRAMS };
@@ -55,7 +58,8 @@ static uint64_t ask(const struct program *program, const struct question *asked,
     case DECODE: return program->decode(asked->given, asked->length, lent, LENT);
     case FRAME_LENGTH: return program->frame_length(asked->identifier, asked->given, asked->length);
     case MAKE_FRAME: return program->make_frame(asked->identifier, asked->given, asked->length, lent, LENT);
-    default: return program->read_line(asked->given, asked->length, lent, LENT);
+    case READ_LINE: return program->read_line(asked->given, asked->length, lent, LENT);
+    default: return program->read_own_line(asked->given, asked->length, lent, LENT);
     }
 }
 
@@ -80,8 +84,10 @@ static void count_all(struct question asked)
         answer[program] = count(program, &asked, lent[program]);
     }
     compared++;
-    if (answer[PLAIN] != answer[ARCHIVE] || memcmp(lent[PLAIN], lent[ARCHIVE], LENT) != 0) {
-        printf("bench: counted call %lu, of number %d and size %zu, differs\n", compared, asked.call, asked.size);
+    int differs = answer[PLAIN] != answer[ARCHIVE] || memcmp(lent[PLAIN], lent[ARCHIVE], LENT) != 0;
+    if (differs || prushgoli_refusal(answer[PLAIN]) != PRUSHGOLI_ACCEPTED) {
+        printf("bench: counted call %lu, of number %d and size %zu, %s\n", compared, asked.call, asked.size,
+               differs ? "differs" : "is refused");
         exit(EXIT_FAILURE);
     }
 }
@@ -95,6 +101,8 @@ static void count_calls(uint32_t identifier, const uint8_t *payload, size_t size
     count_all((struct question){DECODE, size, 0, field, n});
     count_all((struct question){FRAME_LENGTH, size, identifier, payload, size});
     count_all((struct question){MAKE_FRAME, size, identifier, payload, size});
+    count_all((struct question){READ_OWN_LINE, size, 0, line, bits});
+    line[bits - FROM_ACK_SLOT] = 0;
     count_all((struct question){READ_LINE, size, 0, line, bits});
 }
 

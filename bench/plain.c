@@ -7,7 +7,7 @@
 
 #include "tables.h"
 
-enum { HEADER_BITS = 19, CRC_BITS = 15, TAIL_BITS = 10, ACK_SLOT = 1, MOST_EQUAL = 5, MOST_IDENTIFIER = 2047 };
+enum { HEADER_BITS = 19, CRC_BITS = 15, TAIL_BITS = 10, MOST_EQUAL = 5, MOST_IDENTIFIER = 2047 };
 
 /* Start of frame; RTR, IDE and reserved bit. */
 enum { HEADER_ZEROS = 1 << 18 | 7 << 4 };
@@ -280,27 +280,50 @@ static bool receive_field_and_crc(struct reader *reader, struct frame *frame)
     return reader->value == crc_of_frame(frame) || refuse(reader, PRUSHGOLI_CRC);
 }
 
-/* The stuff bit that the CRC may draw; CRC delimiter, ACK slot, ACK delimiter and seven end bits; then nothing. */
-static bool receive_tail(struct reader *reader)
+/* A delimiter or an end bit. */
+static bool next_one(struct reader *reader)
 {
     unsigned bit;
+    return next_bit(reader, &bit) && (bit == 1 || refuse(reader, PRUSHGOLI_FIXED_BIT));
+}
+
+static bool next_ack(struct reader *reader, unsigned most)
+{
+    unsigned bit;
+    return next_bit(reader, &bit) && (bit <= most || refuse(reader, PRUSHGOLI_NOT_ACKNOWLEDGED));
+}
+
+/* The stuff bit that the CRC may draw; CRC delimiter, ACK slot, ACK delimiter and seven end bits; then nothing. */
+static bool receive_tail(struct reader *reader, unsigned most_ack)
+{
     if (reader->run.length == MOST_EQUAL && !next_stuff_bit(reader))
         return false;
-    for (unsigned i = 0; i < TAIL_BITS; i++) {
-        if (!next_bit(reader, &bit))
+    if (!next_one(reader) || !next_ack(reader, most_ack))
+        return false;
+    for (unsigned i = 2; i < TAIL_BITS; i++)
+        if (!next_one(reader))
             return false;
-        if (bit == 0 && i != ACK_SLOT)
-            return refuse(reader, PRUSHGOLI_FIXED_BIT);
-    }
     return reader->place++ == reader->length || refuse(reader, PRUSHGOLI_LINE_LENGTH);
+}
+
+static uint64_t read_line(const uint8_t *line, size_t line_len, uint8_t *payload, size_t payload_room,
+                          unsigned most_ack)
+{
+    struct reader reader = {line, line_len, 0, idle, 0, 0};
+    struct frame frame;
+    if (!receive_header(&reader, &frame) || !receive_field_and_crc(&reader, &frame) ||
+        !receive_tail(&reader, most_ack))
+        return reader.refusal;
+    uint64_t answer = plain_decode(frame.field, frame.n, payload, payload_room);
+    return answer >> 16 == 0 ? (uint64_t)(frame.header >> 7) << 32 | answer : answer;
 }
 
 uint64_t plain_read_line(const uint8_t *line, size_t line_len, uint8_t *payload, size_t payload_room)
 {
-    struct reader reader = {line, line_len, 0, idle, 0, 0};
-    struct frame frame;
-    if (!receive_header(&reader, &frame) || !receive_field_and_crc(&reader, &frame) || !receive_tail(&reader))
-        return reader.refusal;
-    uint64_t answer = plain_decode(frame.field, frame.n, payload, payload_room);
-    return answer >> 16 == 0 ? (uint64_t)(frame.header >> 7) << 32 | answer : answer;
+    return read_line(line, line_len, payload, payload_room, 0);
+}
+
+uint64_t plain_read_own_line(const uint8_t *line, size_t line_len, uint8_t *payload, size_t payload_room)
+{
+    return read_line(line, line_len, payload, payload_room, 1);
 }

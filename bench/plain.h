@@ -11,5 +11,6 @@ uint64_t plain_frame_length(uint32_t identifier, const uint8_t *payload, size_t 
 uint64_t plain_make_frame(uint32_t identifier, const uint8_t *payload, size_t payload_len, uint8_t *line,
                           size_t line_room);
 uint64_t plain_read_line(const uint8_t *line, size_t line_len, uint8_t *payload, size_t payload_room);
+uint64_t plain_read_own_line(const uint8_t *line, size_t line_len, uint8_t *payload, size_t payload_room);
 
 #endif
