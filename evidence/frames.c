@@ -8,14 +8,14 @@
 
 #include "frame.h"
 
-enum { IDENTIFIERS = 2048, LENGTHS = 160, NO_BIT = 2 };
+enum { IDENTIFIERS = 2048, LENGTHS = 160, NO_BIT = 2, FROM_ACK_SLOT = 9 /* bits to the end of a line */ };
 
 struct range {
     unsigned shortest, longest;
 };
 
 static struct {
-    unsigned long frames, reported, within, back;
+    unsigned long frames, reported, within, back, unheard, heard;
     unsigned long plain[LENGTHS + 1], coded[LENGTHS][LENGTHS + 1]; /* coded: by the least bound, then by the length */
 } met;
 
@@ -57,21 +57,43 @@ static unsigned bits_of(const uint8_t *line, size_t room)
     return bits;
 }
 
+typedef uint64_t reader(const uint8_t *line, size_t line_len, uint8_t *payload, size_t payload_room);
+
+static int comes_back(reader *read_line, const uint8_t *line, unsigned bits, uint32_t identifier,
+                      const uint8_t *payload, size_t size)
+{
+    uint8_t back[PRUSHGOLI_PAYLOAD_MOST] = {0};
+    uint64_t read = read_line(line, bits, back, sizeof back);
+    return prushgoli_refusal(read) == PRUSHGOLI_ACCEPTED && prushgoli_identifier(read) == identifier &&
+           prushgoli_length(read) == size && memcmp(back, payload, size) == 0;
+}
+
+/* Reads the line as it was made, and as it is once a receiver on the bus has set the ACK slot to 0. */
+static void read_back(uint8_t *line, unsigned bits, uint32_t identifier, const uint8_t *payload, size_t size)
+{
+    uint8_t back[PRUSHGOLI_PAYLOAD_MOST] = {0};
+    unsigned ack_slot = bits - FROM_ACK_SLOT;
+    uint64_t unheard = prushgoli_read_line(line, bits, back, sizeof back);
+    met.back += comes_back(prushgoli_read_own_line, line, bits, identifier, payload, size);
+    met.unheard += prushgoli_refusal(unheard) == PRUSHGOLI_NOT_ACKNOWLEDGED && prushgoli_place(unheard) == ack_slot;
+    line[ack_slot] = 0;
+    met.heard += comes_back(prushgoli_read_line, line, bits, identifier, payload, size);
+}
+
 static void send_coded(uint32_t identifier, const uint8_t *payload, size_t size)
 {
-    uint8_t line[LENGTHS], back[PRUSHGOLI_PAYLOAD_MOST] = {0};
+    uint8_t line[LENGTHS];
     memset(line, NO_BIT, sizeof line);
     uint64_t bounds = prushgoli_frame_bounds(identifier, size);
     uint64_t length = prushgoli_frame_length(identifier, payload, size);
     uint64_t made = prushgoli_make_frame(identifier, payload, size, line, sizeof line);
     unsigned bits = bits_of(line, sizeof line), least = prushgoli_least(bounds);
-    uint64_t read = prushgoli_read_line(line, bits, back, sizeof back);
     met.reported += prushgoli_length(length) == bits && prushgoli_length(made) == bits;
     met.within += least <= bits && bits <= prushgoli_most(bounds);
-    met.back += prushgoli_refusal(read) == PRUSHGOLI_ACCEPTED && prushgoli_identifier(read) == identifier &&
-                prushgoli_length(read) == size && memcmp(back, payload, size) == 0;
     met.coded[least][bits]++;
     widen(&coded_of[identifier], bits);
+    if (bits > FROM_ACK_SLOT)
+        read_back(line, bits, identifier, payload, size);
 }
 
 static void send(uint32_t identifier, const uint8_t *payload, size_t size)
@@ -83,7 +105,8 @@ static void send(uint32_t identifier, const uint8_t *payload, size_t size)
 
 static void print_met(const char *payloads, size_t size)
 {
-    printf("frames %s %zu %lu %lu %lu %lu\n", payloads, size, met.frames, met.reported, met.within, met.back);
+    printf("frames %s %zu %lu %lu %lu %lu %lu %lu\n", payloads, size, met.frames, met.reported, met.within, met.back,
+           met.unheard, met.heard);
     for (unsigned length = 0; length <= LENGTHS; length++)
         if (met.plain[length] > 0)
             printf("plain %s %zu %u %lu\n", payloads, size, length, met.plain[length]);

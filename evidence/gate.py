@@ -75,7 +75,7 @@ class Gate:
         asked = [match for match in map(ASKED.fullmatch, lines) if match]
         self.calls = [Call(match[1], int(match[2]), sum(int(part.split()[1]) for part in match[3].split("  ")[1:]))
                       for match in asked]
-        require(len(self.calls) == 6, f"{path}: {len(self.calls)} lines, not six, on a call: NAME accepted N, refused ...")
+        require(len(self.calls) == 7, f"{path}: {len(self.calls)} lines, not seven, on a call: NAME accepted N, refused ...")
         compared = only(r"compare: (\d+) comparisons, (\d+) differences", lines, path)
         self.comparisons, self.differences = map(int, compared)
         lines, path = self.step("trace")

@@ -3,8 +3,10 @@
 byte BYTE FIELD BACK                             in hex; BACK is what decoding the field gave
 seed SEED                                        in hex
 bounds SIZE FIELD-BYTES LEAST MOST IDENTIFIERS   so many identifiers have these two bounds
-frames PAYLOADS SIZE SENT REPORTED WITHIN BACK   of those sent, how many had the reported length, lay within their
-                                                 bounds, and came back from their line
+frames PAYLOADS SIZE SENT REPORTED WITHIN BACK UNHEARD HEARD
+                                                 of those sent, how many had the reported length, lay within their
+                                                 bounds, came back from their line as it was made, were refused by the
+                                                 default call for the 1 in its ACK slot, and came back with 0 there
 plain PAYLOADS SIZE LENGTH FRAMES                so many had this length, sent plain
 coded PAYLOADS SIZE LEAST LENGTH FRAMES          so many of those with this least bound had this length, in 8B9B
 spread SIZE PLAIN CODED                          the most by which lengths of one identifier differed
@@ -18,7 +20,7 @@ SIZES = range(8)
 PAYLOADS = ("random", "equal-bits")
 Byte = namedtuple("Byte", "byte field back break_bit word padding")
 Bounds = namedtuple("Bounds", "field_bytes least most identifiers")
-Frames = namedtuple("Frames", "sent reported within back")
+Frames = namedtuple("Frames", "sent reported within back unheard heard")
 
 
 class Runs:

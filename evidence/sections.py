@@ -65,8 +65,8 @@ too.</p>"""
 def lengths_section(runs):
     sent = [runs.frames["random", size].sent for size in SIZES]
     require(len(set(sent)) == 1, "the sizes have different numbers of random frames")
-    total = sum(frames.sent for frames in runs.frames.values())
-    back = sum(frames.back for frames in runs.frames.values())
+    total, back, unheard, heard = (sum(getattr(frames, name) for frames in runs.frames.values())
+                                   for name in ("sent", "back", "unheard", "heard"))
     return f"""<section id="lengths">
 <h2>4. Frame lengths, plain CAN beside 8B9B</h2>
 <p>Every frame was sent twice with the same identifier and payload. In 8B9B: the library’s frame. Plain: the payload’s own bytes as data
@@ -80,7 +80,11 @@ frames had a length its bar is too low to be seen; the labels name the whole ran
 </figure>
 {claim(runs)}
 {lengths_table(runs)}
-<p class="key">Lengths met, in bits, by payload size; the random frames are {sent[0]:,} for each size. Of all {total:,} frames in 8B9B,
-{back:,} had the length that <code>prushgoli_frame_length</code> tells, counted on the line that <code>prushgoli_make_frame</code> made; lay
-within the bounds of their identifier; and gave identifier and payload back to <code>prushgoli_read_line</code>.</p>
+<p class="key">Lengths met, in bits, by payload size; the random frames are {sent[0]:,} for each size. Of all
+<span id="frames-sent">{total:,}</span> frames in 8B9B, {back:,} had the length that <code>prushgoli_frame_length</code> tells, counted on
+the line that <code>prushgoli_make_frame</code> made; lay within the bounds of their identifier; and gave identifier and payload back to
+<code>prushgoli_read_own_line</code>.</p>
+<p class="key">A line as it is made has 1 in the ACK slot: nobody heard the frame. <code>prushgoli_read_line</code>, which is for lines from
+a live bus, refused <span id="frames-unheard">{unheard:,}</span> of these lines at that bit, with 20. With 0 there, as a receiver leaves
+it, <span id="frames-heard">{heard:,}</span> gave identifier and payload back to it.</p>
 </section>"""

@@ -92,6 +92,14 @@ def check_lengths(page):
     check(len(svg.findall("rect")) > 20, "the plot has no bars")
 
 
+def check_acknowledged(page):
+    """Each identifier at least with every payload of bytes 00 and FF: refused while nobody heard the frame, else read."""
+    sent, unheard, heard = (int(shown(page, f"frames-{name}").replace(",", "")) for name in ("sent", "unheard", "heard"))
+    check(sent >= 2048 * (2 ** 8 - 1), f"only {sent} frames were sent")
+    check(unheard == sent, f"of {sent} frames that nobody heard, {unheard} are said to be refused")
+    check(heard == sent, f"of {sent} acknowledged frames, {heard} are said to be read")
+
+
 def record(folder, step, pattern):
     """All that the pattern finds in what a step of the gate printed."""
     return re.findall(pattern, (folder / step).read_text(encoding="utf-8"), re.MULTILINE)
@@ -136,9 +144,11 @@ def main(path, folder):
     check_bytes(page)
     check_timetable(page)
     check_lengths(page)
+    check_acknowledged(page)
     check_gate(page, Path(folder))
     check_commit(page)
-    print("tests/evidence: 256 bytes, 8 sizes, the gate's numbers and the commit are as they must be; nothing from outside")
+    print("tests/evidence: 256 bytes, 8 sizes, the frames read, the gate's numbers and the commit are as they must be; "
+          "nothing from outside")
 
 
 if __name__ == "__main__":
