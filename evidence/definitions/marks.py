@@ -1,7 +1,7 @@
 """What is not right between the rules of docs/FORMAT.md and the marks of the definitions.
 
 Every definition that a contract or a statement leads to has a mark; every mark names a rule that is there; every rule has a definition of
-document 01's calls or of its worked cases, or says itself what holds it.
+the documents' calls or of their worked cases, or says itself what holds it.
 """
 
 

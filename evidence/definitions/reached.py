@@ -1,6 +1,6 @@
 """Which definitions have to be believed, and for what.
 
-contracts    what the contracts of document 01's calls lead to
+contracts    what the contracts of the documents' calls lead to
 stated       what the statements about them lead to beside these
 logic        what is said of every call in the words of the toolchain's logic
 worked       what only worked cases lead to: evidence, and nothing to believe

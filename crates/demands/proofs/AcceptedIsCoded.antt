@@ -5,7 +5,8 @@
 --     line-coded    a line of which reading it as our own tells no refusal is, the ACK slot apart, that of the identifier that it answers and
 --                   the payload that it leaves
 --     line-again    so making a frame of them, given room, leaves that line, with 1 in its ACK slot
---     heard-coded   a line of which reading it from a live bus tells no refusal is that line with 0 in its ACK slot
+--     heard-coded   a line of which reading it from a live bus tells no refusal is the line of the identifier that it answers and the payload
+--                   that it leaves, with 0 in its ACK slot
 use mathlib.Core.Path.{_≡_, sym, ap, ap₂, _∙_, subst}
 use mathlib.Core.List.{List, _++_}
 use Prim.Native.Nat.{ℕ, _-_, _≤_}

@@ -1,12 +1,13 @@
 -- Change request #109: a line from a live bus, where a 1 in the ACK slot means that nobody heard the frame, and a line of our own maker,
--- which leaves a 1 there. Each is read by a call of its own, `acknowledged` and `own`. Assumes nothing.
---     heard-exactly    the first accepts exactly the frames that coding gives, with 0 in the ACK slot, with their identifier
+-- which leaves a 1 there. Each has its call: `read_line`, whose reading is `acknowledged`, and `read_own_line`, whose reading is `own`.
+-- Assumes nothing.
+--     heard-exactly    the first accepts, given room, exactly the frames that coding gives, with 0 in the ACK slot, with their identifier
 --     heard-payload    and finds their payload in them
---     own-exactly      the second exactly those frames, the ACK slot apart
+--     own-exactly      the second accepts, given room, exactly the frames that coding gives, the ACK slot apart
 --     same-but-20      where the first answers something other than 20, the second answers the same and leaves the same
 --     unheard-slot     where it answers 20, everything left of that place is right, the place is the ACK slot, and it holds a 1
 --     never-20         the second never answers 20
---     made-unheard     the line that making leaves, as it is, is refused by the first with 20
+--     made-unheard     the line that making leaves, as it is, is refused by the first with 20, whatever the room
 use mathlib.Core.Path.{_≡_, refl, sym, ap, _∙_}
 use mathlib.Core.Bool.{Bool, true, false}
 use mathlib.Core.List.{List, []}
@@ -29,8 +30,10 @@ use Rattle.line.specs.Read.{acknowledged, own, readAnswer, payloadIn}
 use Rattle.line.specs.declared.Line.{Line}
 use Rattle.line.specs.declared.Line.the-variants.{Frame, Refused}
 use Rattle.line.proofs.AckSlot.{ack-found}
+use Rattle.line.proofs.FirstProblem.{twenty}
+use Rattle.line.proofs.ReadRefusals.{first-problem}
 use Rattle.line.proofs.RoundTrip.{Coded, own-ack, slot-holds, read-made, accepted-is-coded, coded-is-accepted, coded-apart}
-use Rattle.line.proofs.TwoReadings.{same-answer, not-acknowledged, own-heard}
+use Rattle.line.proofs.TwoReadings.{same-answer, not-acknowledged, own-never-20}
 
 -- ---- what is accepted
 
@@ -85,41 +88,52 @@ module _ (line : List ℕ) (room : ℕ) where
   unheard-slot place = not-acknowledged line room place
 
   pub never-20 : (place : ℕ) → readAnswer own line room ≡ Refused (NotAcknowledged place) → ⊥
-  never-20 place = own-heard line room place
+  never-20 place = own-never-20 line room place
 
 -- ---- the line of our maker, as it is
 
-pub made-unheard : (identifier : ℕ) (payload : List ℕ) (room : ℕ) → identifier ≤ 2047 → Below 256 payload → length payload ≤ 7
-    → length payload ≤ room
-    → (place : ℕ) × (readAnswer acknowledged (payloadLine identifier payload) room ≡ Refused (NotAcknowledged place))
-made-unheard identifier payload room known bytes short fits = go (readAnswer acknowledged line room) refl
-  where
-    line : List ℕ
-    line = payloadLine identifier payload
+module _ (identifier : ℕ) (payload : List ℕ) (known : identifier ≤ 2047) (bytes : Below 256 payload) (short : length payload ≤ 7) where
+  abbrev line : List ℕ
+  line = payloadLine identifier payload
 
-    as-own : readAnswer own line room ≡ Frame identifier (length payload)
-    as-own =
-        ap (λ (l : List ℕ). readAnswer own l room) (sym (own-ack identifier payload))
-        ∙ read-made own identifier payload 1 room known bytes short fits (omega arith) .0
+  -- with room for the payload it is accepted as our own, so it must be 20
+  with-room : (place : ℕ) × (readAnswer acknowledged line (length payload) ≡ Refused (NotAcknowledged place))
+  with-room = go (readAnswer acknowledged line room) refl
+    where
+      room : ℕ
+      room = length payload
 
-    -- it holds a 1
-    one : getD line (length line - 9) 0 ≡ 1
-    one =
-        ap (λ (l : List ℕ). getD l (length l - 9) 0) (sym (own-ack identifier payload)) ∙ slot-holds identifier (fieldOf payload) 1
+      as-own : readAnswer own line room ≡ Frame identifier room
+      as-own =
+          ap (λ (l : List ℕ). readAnswer own l room) (sym (own-ack identifier payload))
+          ∙ read-made own identifier payload 1 room known bytes short (omega arith) (omega arith) .0
 
-    go : (answer : Line) → readAnswer acknowledged line room ≡ answer
-        → (place : ℕ) × (readAnswer acknowledged line room ≡ Refused (NotAcknowledged place))
-    go (Frame i n) e =
-        let coded = heard-exactly line room i n .0 e in
-        let zero = ap (λ (l : List ℕ). getD l (length l - 9) 0) (coded .1) ∙ slot-holds i (fieldOf (coded .0)) 0 in
-        absurd (omega (arith, one, zero))
-    go (Refused r) e = by-number (eqb (numberOf r) 20) refl
-      where
-        by-number : (t : Bool) → eqb (numberOf r) 20 ≡ t
-            → (place : ℕ) × (readAnswer acknowledged line room ≡ Refused (NotAcknowledged place))
-        by-number true d = (placeOf r, e ∙ ap Refused (refusal-only r (NotAcknowledged (placeOf r)) (eqb-true (numberOf r) 20 d) refl))
-        by-number false d =
-            let other : (place : ℕ) → readAnswer acknowledged line room ≡ Refused (NotAcknowledged place) → ⊥
-            = λ place q. let same : r ≡ NotAcknowledged place = cc in eqb-false (numberOf r) 20 d (ap numberOf same) in
-            let never = sym as-own ∙ same-but-20 line room other .0 ∙ e in
-            let z : _≡_ {A = ℕ} 0 1 = cc in absurd (omega arith)
+      -- it holds a 1
+      one : getD line (length line - 9) 0 ≡ 1
+      one =
+          ap (λ (l : List ℕ). getD l (length l - 9) 0) (sym (own-ack identifier payload)) ∙ slot-holds identifier (fieldOf payload) 1
+
+      go : (answer : Line) → readAnswer acknowledged line room ≡ answer
+          → (place : ℕ) × (readAnswer acknowledged line room ≡ Refused (NotAcknowledged place))
+      go (Frame i n) e =
+          let coded = heard-exactly line room i n .0 e in
+          let zero = ap (λ (l : List ℕ). getD l (length l - 9) 0) (coded .1) ∙ slot-holds i (fieldOf (coded .0)) 0 in
+          absurd (omega (arith, one, zero))
+      go (Refused r) e = by-number (eqb (numberOf r) 20) refl
+        where
+          by-number : (t : Bool) → eqb (numberOf r) 20 ≡ t
+              → (place : ℕ) × (readAnswer acknowledged line room ≡ Refused (NotAcknowledged place))
+          by-number true d = (placeOf r, e ∙ ap Refused (refusal-only r (NotAcknowledged (placeOf r)) (eqb-true (numberOf r) 20 d) refl))
+          by-number false d =
+              let other : (place : ℕ) → readAnswer acknowledged line room ≡ Refused (NotAcknowledged place) → ⊥
+              = λ place q. let same : r ≡ NotAcknowledged place = cc in eqb-false (numberOf r) 20 d (ap numberOf same) in
+              let never = sym as-own ∙ same-but-20 line room other .0 ∙ e in
+              let z : _≡_ {A = ℕ} 0 1 = cc in absurd (omega arith)
+
+  pub made-unheard : (room : ℕ) → (place : ℕ) × (readAnswer acknowledged (payloadLine identifier payload) room ≡ Refused (NotAcknowledged place))
+  made-unheard room =
+      let place = with-room .0 in (
+        place,
+        first-problem acknowledged line (length payload) (NotAcknowledged place) (with-room .1) line room (twenty place)
+            (λ e. absurd (omega (arith, e))) refl,
+      )

@@ -1,5 +1,6 @@
 -- Demand 1, reading a line: its bits from the left, and the first problem met is the answer; only then 2 and the data field's 4 to 7. Of
--- every reading, so of both calls, `acknowledged` and `own`; what is between these is in Acknowledged. Assumes nothing.
+-- every reading, so of both calls: `acknowledged` is that of read_line, `own` that of read_own_line. What is between these is in
+-- Acknowledged. Assumes nothing.
 --     line-bits        3, 9 to 13 and 20 are given exactly when the verdict on the bit at that place, from the bits to its left, is this
 --                      refusal, or the line ends there and is no whole frame, 11; and the verdict on each bit to its left is right
 --     line-field       2 and 4 to 7 exactly when the line is that of a frame, with a bit in the ACK slot that the reading takes, whose data
@@ -8,7 +9,7 @@
 --     line-first       cut before the problem, the line is only too short
 --     line-stays       nothing to the right of it is looked at; at the line's end, where 11 stands too, there is no bit to keep
 --     line-cut, line-longer    an accepted line, cut or with bits added: 11, place its length or the first bit too many
---     line-decoded     the line of a frame is answered as decoding its data field
+--     line-decoded     the line of a frame, with a bit in the ACK slot that the reading takes, is answered as decoding its data field
 use mathlib.Core.Path.{_≡_, refl, ap, _∙_}
 use mathlib.Core.Bool.{false}
 use mathlib.Core.List.{List, [], _∷_, _++_}
@@ -36,7 +37,7 @@ use Rattle.line.proofs.ProblemMet.{problem-met, right-before, problem-stops}
 use Rattle.line.proofs.ReadAnswers.{read-stopped}
 use Rattle.line.proofs.ReadRefusals.{fieldNumbers, read-numbers, bits-refused, first-problem, first-of-all, field-refused, refused-field, cut-line, longer-line}
 use Rattle.line.proofs.RoundTrip.{read-frame}
-use Rattle.line.proofs.TwoReadings.{own-heard}
+use Rattle.line.proofs.TwoReadings.{own-never-20}
 
 -- 3, 9 to 13, 20
 abbrev OfBits : Refusal → Type 0
@@ -112,7 +113,7 @@ module _ (line : List ℕ) (room : ℕ) (refusal : Refusal) where
 
       twenty : numberOf refusal ≡ 20 → ⊥
       twenty is =
-          own-heard line room (placeOf refusal)
+          own-never-20 line room (placeOf refusal)
           (refused ∙ ap Refused (refusal-only refusal (NotAcknowledged (placeOf refusal)) is refl))
 
       bits : Among others (numberOf refusal) ⊎ Among (20 ∷ []) (numberOf refusal) → Among (others ++ fieldNumbers) (numberOf refusal)

@@ -4,7 +4,7 @@
 --     verdict-same     of each bit both say the same, or one says 20
 --     same-answer      where reading a line from a live bus is not answered with 20, reading it as our own is answered the same
 --     not-acknowledged    where it is, the ACK slot is at that place and holds a 1, and every bit to its left is right, for both
---     own-heard        reading it as our own is never answered with 20
+--     own-never-20        reading it as our own is never answered with 20
 use mathlib.Core.Path.{_≡_, refl, sym, ap, ap₂, _∙_}
 use mathlib.Core.Bool.{Bool, true, false, cond, not, _&&_}
 use mathlib.Core.List.{List, [], _∷_, _++_}
@@ -204,8 +204,8 @@ not-acknowledged line room p e = go (problem-met acknowledged line (NotAcknowled
         (inside, told .1, told .3, left)
     go (inr (end, more)) = let z : _≡_ {A = ℕ} 0 1 = cc in absurd (omega arith)
 
-pub own-heard : (line : List ℕ) (room p : ℕ) → readAnswer own line room ≡ Refused (NotAcknowledged p) → ⊥
-own-heard line room p e = go (problem-met own line (NotAcknowledged p) (bits-refused own line room (NotAcknowledged p) e (twenty p)))
+pub own-never-20 : (line : List ℕ) (room p : ℕ) → readAnswer own line room ≡ Refused (NotAcknowledged p) → ⊥
+own-never-20 line room p e = go (problem-met own line (NotAcknowledged p) (bits-refused own line room (NotAcknowledged p) e (twenty p)))
   where
     go : ((p < length line) × (verdictAt line p own ≡ wrong (NotAcknowledged p)))
         ⊎ ((NotAcknowledged p ≡ LineLength (length line)) × (complete (frameBehind nothingSent [] line) ≡ false)) → ⊥

@@ -38,7 +38,7 @@ const MOST: [u8; 9] = [
     1, // data
     1, // CRC
     1, // CRC delimiter
-    1, // ACK slot
+    1, // ACK slot, which the reading fills in
     1, // ACK delimiter, end bits
 ];
 

@@ -46,7 +46,8 @@ pub enum Held {
     Refused(Refusal),
 }
 
-// Scans a line, a byte 0 or 1 for each bit, from its first bit on. Refused with 3, 9 to 13 and 20, at the first problem met.
+// Scans a line, a byte 0 or 1 for each bit, from its first bit on. Refused with 3, 9 to 13 and, where the reading asks for a 0 in the
+// ACK slot, 20, at the first problem met.
 pub fn scan(line: &[u8], reading: Reading) -> Held
     ensures { λ r. ⌜ r ≡ heldIn (scanned reading (now (line .entry))) ⌝ }
 {
