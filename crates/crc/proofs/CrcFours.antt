@@ -3,13 +3,16 @@
 --     crc-list-at      at four bits the list holds their CRC
 --     crc-behind       what the code's exclusive ors give, on a register that is moved up by one bit
 --     crc-nothing, crc-leading    the CRC of no bits is 0, and a bit 0 before a row changes nothing
+--     crc-short        nor do the bits 0 that stand before a number's own
 use mathlib.Core.Path.{_≡_, refl, sym, ap, ap₂, _∙_}
 use mathlib.Core.List.{List, [], _∷_, _++_}
-use Prim.Native.Nat.{ℕ, _+_, _-_, _*_, _/_, _%_, _^_, _<_}
+use Prim.Native.Nat.{ℕ, zero, suc, _+_, _-_, _*_, _/_, _%_, _^_, _≤_, _<_}
+use native.Mathlib.Nat.{zero-add, suc-add, div-eq-of-lt}
 use native.Mathlib.Omega.{arith}
 use lib.Bits.{bitXor, xor-zero-r, xor-shifted}
 use lib.Dec.{lit<}
 use lib.ListN.{getD, replicate}
+use lib.Pow.{pow-mono}
 use Rattle.bits.specs.Rows.{bits}
 use Rattle.bits.proofs.Numbers.{numbers-at}
 use Rattle.crc.specs.Crc.{xor, divide, remainder, crc}
@@ -119,3 +122,13 @@ crc-nothing = refl
 pub crc-leading : (l : List ℕ) → crc (0 ∷ l) ≡ crc l
 unfolding crc remainder divide xor
 crc-leading l = refl
+
+pub crc-short : (j k h : ℕ) (l : List ℕ) → h < 2 ^ k → crc (bits (j + k) h ++ l) ≡ crc (bits k h ++ l)
+unfolding bits
+crc-short zero k h l few = ap (λ (n : ℕ). crc (bits n h ++ l)) (zero-add k)
+crc-short (suc j) k h l few =
+    let wide : 2 ^ k ≤ 2 ^ (j + k) = pow-mono {i = k} {j = j + k} (omega arith) in
+    let top : h / 2 ^ (j + k) % 2 ≡ 0 = ap (λ (n : ℕ). n % 2) (div-eq-of-lt (omega arith)) in
+    ap (λ (n : ℕ). crc (bits n h ++ l)) (suc-add j k)
+    ∙ ap (λ (b : ℕ). crc (b ∷ (bits (j + k) h ++ l))) top
+    ∙ crc-leading (bits (j + k) h ++ l) ∙ crc-short j k h l few

@@ -9,12 +9,12 @@ ghost use Rattle.crc.specs.Dlc.{dataBytes};
 
 mod crc_list;
 
-// The CRC of a header and the data field that its DLC announces, each the lowest bits of a number.
+// The CRC of a header and the data field that its DLC announces, each the lowest bits of a number. The header has 39 bits; bits 0 before
+// a shorter one change nothing.
 pub fn of_frame(header: u64, field: u64) -> u64
-    ensures { λ r. ⌜ r ≡ crc (bits 19 header ++ bits (8 * dataBytes (header % 16)) field) ⌝ }
+    ensures { λ r. ⌜ r ≡ crc (bits 39 header ++ bits (8 * dataBytes (header % 16)) field) ⌝ }
 {
-    let n = data_bytes(header % 16);
-    of(header % 0x80000, field, n)
+    of(header % 0x8000000000, field)
 }
 
 // How many data bytes a DLC stands for.
@@ -24,15 +24,26 @@ fn data_bytes(dlc: u64) -> usize
     if 8 < dlc { 8 } else { dlc as usize }
 }
 
-// The CRC of a header of 19 bits and a data field of n bytes.
-fn of(header: u64, field: u64, n: usize) -> u64
-    requires { ⌜ (header < 2 ^ 19) × (n ≤ 8) ⌝ }
-    ensures { λ r. ⌜ r ≡ crc (bits 19 header ++ bits (8 * n) field) ⌝ }
+// The CRC of a header and its data field.
+fn of(header: u64, field: u64) -> u64
+    requires { ⌜ header < 2 ^ 39 ⌝ }
+    ensures { λ r. ⌜ r ≡ crc (bits 39 header ++ bits (8 * dataBytes (header % 16)) field) ⌝ }
 {
     let list = crc_list::list();
-    // A bit 0 before the header changes nothing.
-    let register = bring_down(&list, 0, header, 5);
+    let register = of_header(&list, header);
+    let n = data_bytes(header % 16);
     (bring_down(&list, register, field, 2 * n) / 2) as u64
+}
+
+// The register behind a header: with bits 0 before it, the base form has 20 bits and the long form 40. The loop's length is a literal.
+fn of_header(list: &[u16; 16], header: u64) -> u16
+    requires { ⌜ (now list ≡ crcList) × (header < 2 ^ 39) ⌝ }
+    ensures { λ r. ⌜ r ≡ crc (bits 39 header) * 2 ⌝ }
+{
+    if header < 0x100000 {
+        return bring_down(list, 0, header, 5);
+    }
+    bring_down(list, 0, header, 10)
 }
 
 // The CRC of a row from that of its front, and the `count` times four bits behind it. Both are moved up by one bit, to the register's
