@@ -1,3 +1,4 @@
+pub mod Identifiers
 pub mod HeaderBits
 pub mod FourBits
 pub mod Quiet

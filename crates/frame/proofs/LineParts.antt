@@ -8,9 +8,10 @@
 --     quiet-length    how many bits the line of a frame's parts has, where no data bit draws a stuff bit
 use mathlib.Core.Path.{_≡_, refl, sym, ap, ap₂, _∙_, subst}
 use mathlib.Core.List.{List, _++_, append-assoc}
-use Prim.Native.Nat.{ℕ, _+_, _*_, _%_, _^_, _<_}
+use Prim.Native.Nat.{ℕ, _+_, _-_, _*_, _%_, _^_, _<_}
 use native.Mathlib.Omega.{arith}
 use lib.ListN.{length, take, drop, length-append}
+use lib.Pow.{pow-mono}
 use lib.Seq.{take-at, drop-at, take-all}
 use Rattle.bits.specs.declared.Run.{Run}
 use Rattle.bits.specs.Rows.{bits}
@@ -21,10 +22,12 @@ use Rattle.crc.specs.Crc.{crc}
 use Rattle.crc.specs.Dlc.{dataBytes}
 use Rattle.crc.proofs.Dlc.{data-bytes}
 use Rattle.crc.proofs.Division.{crc-below}
+use Rattle.crc.proofs.CrcFours.{crc-short}
 use Rattle.frame.specs.Line.{crcBits, stuffedRow, ending, lineOf}
 use Rattle.frame.specs.StuffBits.{stuffBitsIn, afterHeader, afterData, afterCrc}
 use Rattle.frame.specs.Writing.{tailRow}
-use Rattle.frame.specs.Parts.{headerBits, dataBits, Fit, lineIn}
+use Rattle.frame.specs.Parts.{bitsOf, Starts, headerBits, dataBits, Fit, lineIn}
+use Rattle.frame.specs.declared.header.Header.{Header}
 use Rattle.frame.specs.declared.parts.Parts.{Parts}
 
 -- the runs that header and data bits leave
@@ -87,22 +90,36 @@ line-parts headerBits dataBits =
     ∙ ap (λ (l : List ℕ). l ++ ending 1) (stuffed-append nothingSent before check)
     ∙ append-assoc (stuffed nothingSent before) (stuffed (runAfterRow nothingSent before) check) (ending 1)
 
-pub crc-of-parts : (p : Parts) (r : ℕ) → Fit p → r ≡ crc (headerBits p ++ bits (8 * dataBytes (p .header % 16)) (p .field))
+-- the bits 0 before a header that is shorter than 39 bits change nothing
+shorter : (h : Header) (l : List ℕ) → Starts h → crc (bits 39 (h .number) ++ l) ≡ crc (bitsOf h ++ l)
+shorter h l starts =
+    let few = starts .few in
+    let own : ℕ = 3 + 4 * h .fours in
+    let whole : 39 ≡ 36 - 4 * h .fours + own = omega arith in
+    let wide = pow-mono {i = 2 + 4 * h .fours} {j = own} (omega arith) in
+    ap (λ (k : ℕ). crc (bits k (h .number) ++ l)) whole
+    ∙ crc-short (36 - 4 * h .fours) own (h .number) l (omega (arith, wide, starts .first))
+
+pub crc-of-parts : (p : Parts) (r : ℕ) → Fit p
+    → r ≡ crc (bits 39 (p .header .number) ++ bits (8 * dataBytes (p .header .number % 16)) (p .field))
     → (r ≡ crc (headerBits p ++ dataBits p)) × (r < 2 ^ 15)
 crc-of-parts p r fit e =
-    let bytes = ap dataBytes (fit .dlc) ∙ data-bytes (p .n) (fit .few) in
-    (e ∙ ap (λ (n : ℕ). crc (headerBits p ++ bits (8 * n) (p .field))) bytes, subst (λ (x : ℕ). x < 2 ^ 15) (sym e) (crc-below _))
+    let number = p .header .number in
+    let bytes = ap dataBytes (fit .dlc) ∙ data-bytes (p .n) (fit .few) in (
+      e ∙ ap (λ (n : ℕ). crc (bits 39 number ++ bits (8 * n) (p .field))) bytes ∙ shorter (p .header) (dataBits p) (fit .starts),
+      subst (λ (x : ℕ). x < 2 ^ 15) (sym e) (crc-below _),
+    )
 
 pub quiet-length : (p : Parts) → Fit p →
     let x = crc (headerBits p ++ dataBits p) in
     length (lineIn p)
-    ≡ 44 + 8 * p .n + (stuffCount nothingSent (headerBits p) + stuffCount (dataRun (headerBits p) (dataBits p)) (bits 15 x))
+    ≡ 28 + 4 * p .header .fours + 8 * p .n + (stuffCount nothingSent (headerBits p) + stuffCount (dataRun (headerBits p) (dataBits p)) (bits 15 x))
 unfolding crcBits
 quiet-length p fit =
     omega (
       arith,
       line-length (headerBits p) (dataBits p),
-      bits-length 19 (p .header),
+      bits-length (3 + 4 * p .header .fours) (p .header .number),
       bits-length (8 * p .n) (p .field),
       fit .quiet,
     )

@@ -24,6 +24,7 @@ use Rattle.field.proofs.Coded.{IsField}
 use Rattle.field.proofs.FieldBits.{field-length, bits-of-field}
 use Rattle.field.proofs.Sizes.{fieldBytes-few}
 use Rattle.crc.specs.Crc.{crc}
+use Rattle.frame.specs.declared.Identifier.{Identifier}
 use Rattle.frame.specs.Header.{header}
 use Rattle.frame.specs.Line.{crcBits, stuffedRow, ending, lineOf, frameLine}
 use Rattle.frame.specs.Answers.{payloadLine}
@@ -31,7 +32,7 @@ use Rattle.frame.proofs.HeaderBits.{header-below}
 use Rattle.frame.proofs.LineParts.{headerRun, after-data}
 use Rattle.frame.proofs.Demand3.{data-none}
 
-pub frame-is : (identifier : ℕ) (payload : List ℕ) → length payload ≤ 7 →
+pub frame-is : (identifier : Identifier) (payload : List ℕ) → length payload ≤ 7 →
     let headerBits = header identifier (fieldBytes (length payload)) in
     let check = crc (headerBits ++ fieldBits payload) in
     payloadLine identifier payload
@@ -42,7 +43,7 @@ frame-is identifier payload short = rw (field-length payload, bits-of-field payl
 pub ack-in-place : (ack : ℕ) → (take 1 (ending ack) ≡ 1 ∷ []) × (take 1 (drop 1 (ending ack)) ≡ ack ∷ []) × (drop 2 (ending ack) ≡ replicate 8 1)
 ack-in-place ack = (refl, refl, refl)
 
-pub line-below : (identifier : ℕ) (payload : List ℕ) → Below 2 (payloadLine identifier payload)
+pub line-below : (identifier : Identifier) (payload : List ℕ) → Below 2 (payloadLine identifier payload)
 unfolding bits frameLine lineOf stuffedRow crcBits
 line-below identifier payload =
     let n = length (fieldOf payload) in
@@ -59,7 +60,7 @@ pub coded-few : (payload : List ℕ) (n v : ℕ) → IsField payload n v → n �
 coded-few payload n v coded =
     subst (λ (m : ℕ). m ≤ 8) (sym (coded .bytes ∙ field-length payload)) (fieldBytes-few (length payload) (coded .short))
 
-pub coded-quiet : (identifier : ℕ) (payload headerBits : List ℕ) (n v : ℕ) → IsField payload n v → headerBits ≡ header identifier n
+pub coded-quiet : (identifier : Identifier) (payload headerBits : List ℕ) (n v : ℕ) → IsField payload n v → headerBits ≡ header identifier n
     → Below 256 payload → stuffCount (headerRun headerBits) (bits (8 * n) v) ≡ 0
 coded-quiet identifier payload headerBits n v coded e bytes =
     let field = fieldOf payload in
@@ -67,7 +68,7 @@ coded-quiet identifier payload headerBits n v coded e bytes =
     ap₂ (λ (l m : List ℕ). stuffCount (headerRun l) m) headers (bits-unpacked 8 n v field (coded .bytes) (coded .number-is))
     ∙ sym (after-data (header identifier (length field)) (unpacked 8 field)) ∙ data-none identifier payload bytes (coded .short)
 
-pub coded-line : (identifier : ℕ) (payload headerBits : List ℕ) (n v : ℕ) → IsField payload n v → headerBits ≡ header identifier n
+pub coded-line : (identifier : Identifier) (payload headerBits : List ℕ) (n v : ℕ) → IsField payload n v → headerBits ≡ header identifier n
     → lineOf headerBits (bits (8 * n) v) ≡ payloadLine identifier payload
 unfolding frameLine
 coded-line identifier payload headerBits n v coded e =

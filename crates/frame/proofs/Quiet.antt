@@ -1,7 +1,8 @@
 -- Rows that draw no stuff bit, where the code makes use of them. Assumes nothing.
 --     quiet-sent       such a row goes out as it is
 --     quiet-field      the run that a field leaves is that of its last four bits
---     header-drawn, header-run-is, header-sent    of a header's stuff bits, run and bits the first three are told by themselves
+--     header-first     a header's first three bits start with 0
+--     header-run-is, header-counts, header-sent    what a header leaves and how it goes out, told by the bits behind its first three
 --     check-drawn, check-sent    the bit added to the CRC draws none; what goes out
 use mathlib.Core.Path.{_≡_, refl, sym, ap, ap₂, _∙_}
 use mathlib.Core.List.{List, [], _∷_, _++_}
@@ -10,13 +11,17 @@ use native.Mathlib.Nat.{zero-add}
 use native.Mathlib.Omega.{arith}
 use lib.Dec.{lit<}
 use lib.ListN.{length}
+use lib.Pow.{shr-lt}
 use Rattle.bits.specs.declared.Run.{Run}
 use Rattle.bits.specs.Rows.{bits}
 use Rattle.bits.specs.Stuffing.{nothingSent, stuffAfter, runAfter, stuffed, stuffCount, runAfterRow}
 use Rattle.bits.proofs.Calm.{other-calm}
-use Rattle.bits.proofs.Rows.{bits-below, bits-split, bits-low, bits-join}
+use Rattle.bits.proofs.Rows.{bits-length, bits-below, bits-split, bits-low, bits-join}
 use Rattle.bits.proofs.Stuffing.{stuffed-append, stuffCount-append, runAfterRow-append, stuff-weight, run-bit}
-use Rattle.frame.specs.Fours.{runOf, quietCheck}
+use Rattle.frame.specs.declared.header.Header.{Header}
+use Rattle.frame.specs.declared.stuffing.Counted.{Counted}
+use Rattle.frame.specs.Parts.{bitsOf, Starts}
+use Rattle.frame.specs.Fours.{runOf, Counts, quietCheck}
 use Rattle.frame.proofs.FourBits.{start-row, start-quiet, start-run, quiet-run}
 
 -- a bit that draws none
@@ -52,26 +57,47 @@ quiet-field last n v some none =
     ∙ ap (runAfterRow before) (bits-low 4 v) ∙ sym (runAfterRow-append (runOf last) front (bits 4 v))
     ∙ ap (runAfterRow (runOf last)) (sym parts)
 
-module _ (h : ℕ) (starts : h < 2 ^ 18) where
-  split : bits 19 h ≡ bits 3 (h / 2 ^ 16) ++ bits 16 h
-  split = bits-split 3 16 h
+module _ (h : Header) (starts : Starts h) where
+  -- its first three bits, and the others
+  abbrev three : ℕ
+  three = h .number / 2 ^ (4 * h .fours)
 
-  first : h / 2 ^ 16 < 4
-  first = omega arith
+  abbrev others : List ℕ
+  others = bits (4 * h .fours) (h .number)
 
-  pub header-drawn : stuffCount nothingSent (bits 19 h) ≡ stuffCount (runOf (8 + h / 2 ^ 16)) (bits 16 h)
+  split : bitsOf h ≡ bits 3 three ++ others
+  split = bits-split 3 (4 * h .fours) (h .number)
+
+  pub header-first : h .number / 2 ^ (4 * h .fours) < 4
+  header-first = shr-lt 2 (4 * h .fours) (starts .first)
+
+  header-drawn : stuffCount nothingSent (bitsOf h)
+      ≡ stuffCount (runOf (8 + h .number / 2 ^ (4 * h .fours))) (bits (4 * h .fours) (h .number))
   header-drawn =
       ap (stuffCount nothingSent) split ∙ stuffCount-append nothingSent _ _
-      ∙ ap₂ (λ (n : ℕ) (r : Run). n + stuffCount r (bits 16 h)) (start-quiet _ first) (start-run _ first) ∙ zero-add _
+      ∙ ap₂ (λ (n : ℕ) (r : Run). n + stuffCount r others) (start-quiet _ header-first) (start-run _ header-first) ∙ zero-add _
 
-  pub header-run-is : runAfterRow nothingSent (bits 19 h) ≡ runAfterRow (runOf (8 + h / 2 ^ 16)) (bits 16 h)
+  pub header-run-is : runAfterRow nothingSent (bitsOf h)
+      ≡ runAfterRow (runOf (8 + h .number / 2 ^ (4 * h .fours))) (bits (4 * h .fours) (h .number))
   header-run-is =
-      ap (runAfterRow nothingSent) split ∙ runAfterRow-append nothingSent _ _ ∙ ap (λ (r : Run). runAfterRow r (bits 16 h)) (start-run _ first)
+      ap (runAfterRow nothingSent) split ∙ runAfterRow-append nothingSent _ _ ∙ ap (λ (r : Run). runAfterRow r others) (start-run _ header-first)
 
-  pub header-sent : stuffed nothingSent (bits 19 h) ≡ bits 3 (h / 2 ^ 16) ++ stuffed (runOf (8 + h / 2 ^ 16)) (bits 16 h)
+  pub header-counts : (last fours : ℕ) (c : Counted) → last ≡ 8 + h .number / 2 ^ (4 * h .fours) → fours ≡ h .fours
+      → Counts (runOf last) (bits (4 * fours) (h .number)) c → Counts nothingSent (bitsOf h) c
+  header-counts last fours c first all counts =
+      record {
+        run-is = counts .run-is ∙ ap₂ (λ (x k : ℕ). runAfterRow (runOf x) (bits (4 * k) (h .number))) first all ∙ sym header-run-is;
+        low = counts .low;
+        drawn-is = counts .drawn-is ∙ ap₂ (λ (x k : ℕ). stuffCount (runOf x) (bits (4 * k) (h .number))) first all ∙ sym header-drawn;
+        few = omega (arith, all, counts .few, bits-length (4 * fours) (h .number), bits-length (3 + 4 * h .fours) (h .number));
+      }
+
+  pub header-sent : stuffed nothingSent (bitsOf h)
+      ≡ bits 3 (h .number / 2 ^ (4 * h .fours))
+      ++ stuffed (runOf (8 + h .number / 2 ^ (4 * h .fours))) (bits (4 * h .fours) (h .number))
   header-sent =
       ap (stuffed nothingSent) split ∙ stuffed-append nothingSent _ _
-      ∙ ap₂ (λ (l : List ℕ) (r : Run). l ++ stuffed r (bits 16 h)) (start-row _ first) (start-run _ first)
+      ∙ ap₂ (λ (l : List ℕ) (r : Run). l ++ stuffed r others) (start-row _ header-first) (start-run _ header-first)
 
 -- behind a bit its other draws none
 other-quiet : (r : Run) (b : ℕ) → b < 2 → stuffCount (runAfter r b) (bits 1 (1 - b)) ≡ 0

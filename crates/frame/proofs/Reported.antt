@@ -15,6 +15,9 @@ use Rattle.refusals.specs.declared.Answer.the-variants.{Length}
 use Rattle.refusals.specs.Table.{given, answerNumbers}
 use Rattle.refusals.proofs.After.{accepted-result}
 use Rattle.field.specs.Sizes.{fieldBytes}
+use Rattle.frame.specs.declared.Identifier.{Identifier}
+use Rattle.frame.specs.Identifier.{Allowed, roomFor}
+use Rattle.frame.specs.Header.{header}
 use Rattle.frame.specs.StuffBits.{headerStuffBits}
 use Rattle.frame.specs.Answers.{payloadLine, lengthAnswer, makeAnswer, boundsAnswer}
 use Rattle.frame.specs.declared.Bounds.the-variants as bounds
@@ -22,10 +25,10 @@ use Rattle.frame.proofs.Demand3.{frame-between}
 use Rattle.frame.proofs.FrameAnswers.{LengthAnswered, length-given, Made, make-given}
 use Rattle.frame.proofs.BoundsAnswers.{Bounded, bounds-given}
 
-module _ (identifier : ℕ) (payload : List ℕ) where
+module _ (identifier : Identifier) (payload : List ℕ) where
   -- identifier and payload are allowed, and the length is that of the line
   pub record OfLine (k : ℕ) : Type 0 where
-    pub allowed : identifier ≤ 2047
+    pub allowed : Allowed identifier
     pub short : length payload ≤ 7
     pub length-is : k ≡ length (payloadLine identifier payload)
 
@@ -34,7 +37,7 @@ module _ (identifier : ℕ) (payload : List ℕ) where
       let h = subst (LengthAnswered identifier payload) e (length-given identifier payload) in
       record { allowed = h .0; short = h .1; length-is = h .2 }
 
-  pub make-accepted : (room k : ℕ) → makeAnswer identifier payload room ≡ Length k → OfLine k × (116 ≤ room)
+  pub make-accepted : (room k : ℕ) → makeAnswer identifier payload room ≡ Length k → OfLine k × (roomFor identifier ≤ room)
   make-accepted room k e =
       let h = subst (Made identifier payload room) e (make-given identifier payload room) in
       (record { allowed = h .0; short = h .1; length-is = h .3 }, h .2)
@@ -55,15 +58,16 @@ module _ (identifier : ℕ) (payload : List ℕ) where
       )
 
 -- the two bounds, where there is no refusal
-pub bounds-accepted : (identifier size least most : ℕ) → boundsAnswer identifier size ≡ bounds.Between least most →
+pub bounds-accepted : (identifier : Identifier) (size least most : ℕ) → boundsAnswer identifier size ≡ bounds.Between least most →
     let n = fieldBytes size in
+    let beside = length (header identifier n) + 25 in
     let h = headerStuffBits identifier n in
-    (least ≡ 44 + 8 * n + h) × (most ≡ 48 + 8 * n + h)
+    (least ≡ beside + 8 * n + h) × (most ≡ beside + 4 + 8 * n + h)
 bounds-accepted identifier size least most e =
     let h = subst (Bounded identifier size) e (bounds-given identifier size) in
     (h .2, h .3)
 
-pub bounds-hold : (identifier : ℕ) (payload : List ℕ) (least most k : ℕ) → Below 256 payload
+pub bounds-hold : (identifier : Identifier) (payload : List ℕ) (least most k : ℕ) → Below 256 payload
     → boundsAnswer identifier (length payload) ≡ bounds.Between least most → lengthAnswer identifier payload ≡ Length k
     → (least ≤ k) × (k ≤ most)
 bounds-hold identifier payload least most k bytes bounded reported =

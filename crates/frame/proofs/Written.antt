@@ -23,6 +23,8 @@ use Rattle.bits.specs.Stuffing.{nothingSent, stuffed, stuffCount, runAfterRow}
 use Rattle.bits.proofs.Filling.{sets-append}
 use Rattle.bits.proofs.Rows.{bits-length, bits-next, bits-low}
 use Rattle.bits.proofs.Stuffing.{runAfterRow-append, stuffed-append, stuffed-length}
+use Rattle.frame.specs.declared.header.Header.{Header}
+use Rattle.frame.specs.Parts.{bitsOf, Starts}
 use Rattle.frame.specs.Fours.{runOf, sentOf, quietCheck}
 use Rattle.frame.specs.declared.writing.Spot.{Spot}
 use Rattle.frame.specs.Line.{ending}
@@ -99,20 +101,24 @@ written-behind {r} {at} {next} {last} {first} {second} {third} l m w v =
       at-is = v .at-is ∙ rw (w .at-is, w .run-is, sent, length-append) (omega arith);
     }
 
-pub written-header : (h : ℕ) (first second third : List ℕ) (next : Spot) → h < 2 ^ 18 → second ≡ sets first 0 (bits 3 (h / 2 ^ 16))
-    → Written (runOf (8 + h / 2 ^ 16)) 3 (bits 16 h) second third next
-    → Written nothingSent 0 (bits 19 h) first third next
-written-header h first second third next starts e w =
-    let three = bits 3 (h / 2 ^ 16) in
-    let rest = stuffed (runOf (8 + h / 2 ^ 16)) (bits 16 h) in
+pub written-header : (h : Header) (fours last at : ℕ) (first second third : List ℕ) (next : Spot) → Starts h →
+    let three = h .number / 2 ^ (4 * h .fours) in
+    fours ≡ h .fours → last ≡ 8 + three → at ≡ 3 → second ≡ sets first 0 (bits 3 three)
+    → Written (runOf last) at (bits (4 * fours) (h .number)) second third next
+    → Written nothingSent 0 (bitsOf h) first third next
+written-header h fours last at first second third next starts all before place e written =
+    let w = rw (all, before, place) at written in
+    let three = bits 3 (h .number / 2 ^ (4 * h .fours)) in
+    let rest = stuffed (runOf (8 + h .number / 2 ^ (4 * h .fours))) (bits (4 * h .fours) (h .number)) in
     let sent = header-sent h starts in
+    let few = bits-length 3 (h .number / 2 ^ (4 * h .fours)) in
     record {
       line-is =
           w .line-is ∙ ap (λ (l : List ℕ). sets l 3 rest) e
-          ∙ sym (ap (sets first 0) sent ∙ sets-append first 0 three rest ∙ ap (λ (k : ℕ). sets (sets first 0 three) k rest) (ap (λ (k : ℕ). 0 + k) (bits-length 3 (h / 2 ^ 16))));
+          ∙ sym (ap (sets first 0) sent ∙ sets-append first 0 three rest ∙ ap (λ (k : ℕ). sets (sets first 0 three) k rest) (ap (λ (k : ℕ). 0 + k) few));
       run-is = w .run-is ∙ sym (header-run-is h starts);
       low = w .low;
-      at-is = omega (arith, w .at-is, ap length sent, length-append three rest, bits-length 3 (h / 2 ^ 16));
+      at-is = omega (arith, w .at-is, ap length sent, length-append three rest, few);
     }
 
 pub written-field : (r : Run) (at n v last to : ℕ) (before line : List ℕ) → stuffCount r (bits (8 * n) v) ≡ 0

@@ -1,3 +1,4 @@
+pub mod Identifier
 pub mod Header
 pub mod Line
 pub mod StuffBits

@@ -6,6 +6,7 @@ use Rattle.bits.specs.Rows.{bits}
 use Rattle.bits.specs.Packing.{unpacked}
 use Rattle.bits.specs.Stuffing.{nothingSent, stuffed}
 use Rattle.crc.specs.Crc.{crc}
+use Rattle.frame.specs.declared.Identifier.{Identifier}
 use Rattle.frame.specs.Header.{header}
 
 -- the CRC bits, of header and data bits [4.3]
@@ -25,5 +26,5 @@ unfoldable pub lineOf : List ℕ → List ℕ → List ℕ
 lineOf headerBits dataBits = stuffed nothingSent (stuffedRow headerBits dataBits) ++ ending 1
 
 -- the line of the frame of an identifier and the bytes of a data field; the DLC is how many these are [4.2, 6.1]
-unfoldable pub frameLine : ℕ → List ℕ → List ℕ
+unfoldable pub frameLine : Identifier → List ℕ → List ℕ
 frameLine identifier field = lineOf (header identifier (length field)) (unpacked 8 field)

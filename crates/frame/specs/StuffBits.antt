@@ -3,6 +3,7 @@ use Prim.Native.Nat.{ℕ, _+_}
 use mathlib.Core.List.{List}
 use lib.ListN.{length, take, drop}
 use Rattle.bits.specs.Stuffing.{nothingSent, stuffCount, runAfterRow}
+use Rattle.frame.specs.declared.Identifier.{Identifier}
 use Rattle.frame.specs.Header.{header}
 use Rattle.frame.specs.Line.{stuffedRow}
 
@@ -21,5 +22,5 @@ abbrev pub afterCrc : List ℕ → List ℕ → ℕ
 afterCrc headerBits dataBits = stuffBitsIn (length headerBits + length dataBits) 15 (stuffedRow headerBits dataBits)
 
 -- h of demand 3: it hangs on identifier and DLC alone [6.3]
-unfoldable pub headerStuffBits : ℕ → ℕ → ℕ
+unfoldable pub headerStuffBits : Identifier → ℕ → ℕ
 headerStuffBits identifier n = stuffCount nothingSent (header identifier n)

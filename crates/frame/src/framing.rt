@@ -1,5 +1,7 @@
 // The frame of an identifier and a payload in its parts.
 ghost use Rattle.frame.specs.Framing.{Gives};
+use crate::Identifier;
+use crate::form;
 use crate::header;
 use crate::parts::Parts;
 use field::encoding;
@@ -13,10 +15,10 @@ pub(crate) enum Framed {
 }
 
 // Codes the payload and sets the header before it. Refused with 8 or 1.
-pub(crate) fn frame(identifier: u32, payload: &[u8]) -> Framed
+pub(crate) fn frame(identifier: Identifier, payload: &[u8]) -> Framed
     ensures { λ r. ⌜ Gives r identifier (now (payload .entry)) ⌝ }
 {
-    if 2047 < identifier {
+    if form::is_refused(identifier) {
         return Framed::Refused(Refusal::Identifier);
     }
     match encoding::code(payload) {

@@ -13,18 +13,19 @@ pub(crate) fn of(parts: Parts) -> usize
     requires { ⌜ Fit parts ⌝ }
     ensures { λ r. ⌜ r ≡ length (lineIn parts) ⌝ }
 {
-    let crc = crc::of_frame(parts.header, parts.field);
+    let head = parts.header;
+    let crc = crc::of_frame(head.number, parts.field);
     let list = sent_list::list();
-    let header = stuffing::count(&list, stuffing::start(parts.header), parts.header, 4);
+    let header = stuffing::of_header(&list, head);
     let last = stuffing::behind(header.last, parts.field, parts.n);
     let check = stuffing::count(&list, last, stuffing::check(crc), 4);
-    total(parts.n, header.drawn, check.drawn)
+    total(head.fours, parts.n, header.drawn, check.drawn)
 }
 
-// The 44 bits beside the data, eight for each of n data bytes, and the stuff bits that follow header and CRC bits.
-pub(crate) fn total(n: usize, header: usize, check: usize) -> usize
-    requires { ⌜ (n ≤ 8) × (header ≤ 64) × (check ≤ 64) ⌝ }
-    ensures { λ r. ⌜ r ≡ 44 + 8 * n + (header + check) ⌝ }
+// The header's bits and 25 more beside the data, eight for each of n data bytes, and the stuff bits that follow header and CRC bits.
+pub(crate) fn total(fours: usize, n: usize, header: usize, check: usize) -> usize
+    requires { ⌜ (fours ≤ 9) × (n ≤ 8) × (header ≤ 64) × (check ≤ 64) ⌝ }
+    ensures { λ r. ⌜ r ≡ 28 + 4 * fours + 8 * n + (header + check) ⌝ }
 {
-    44 + 8 * n + header + check
+    28 + 4 * fours + 8 * n + header + check
 }

@@ -1,4 +1,4 @@
-// The frame of an identifier and a payload: a CAN base data frame on the wire, its length and its bounds.
+// The frame of an identifier and a payload: a CAN data frame on the wire, of either form, its length and its bounds.
 //
 // On success only the bytes of the result are written; after a refusal the lent buffer holds its old bytes.
 ghost use mathlib.Core.Path.{_≡_};
@@ -8,6 +8,7 @@ ghost use Rattle.refusals.specs.After.{after};
 ghost use Rattle.frame.specs.Answers.{payloadLine, makeAnswer, lengthAnswer, boundsAnswer};
 
 mod byte_list;
+mod form;
 mod fours;
 mod framing;
 mod header;
@@ -22,6 +23,14 @@ use framing::Framed;
 use refusals::Answer;
 use refusals::Refusal;
 
+// An identifier: the form of the frames that it goes into, and its number. [4.1]
+pub enum Identifier {
+    // Up to 2047, in 11 bits.
+    Base(u32),
+    // Up to 536,870,911, in 29 bits.
+    Long(u32),
+}
+
 // The two bounds of a frame's length, the lower first, or a refusal. [7.4]
 pub enum Bounds {
     Between(usize, usize),
@@ -29,14 +38,14 @@ pub enum Bounds {
 }
 
 // Makes the frame of an identifier and a payload: the length of its line, which stands at the start of `line`, a byte 0 or 1 for each
-// bit. Refused with 8, 1 or 2; room for 116 bits is asked for whatever the frame.
-pub fn make_frame(identifier: u32, payload: &[u8], line: &mut [u8]) -> Answer
+// bit. Refused with 8, 1 or 2; room for 116 bits is asked for, or for 141 in the long form, whatever the payload.
+pub fn make_frame(identifier: Identifier, payload: &[u8], line: &mut [u8]) -> Answer
     ensures answer { λ r. ⌜ r ≡ makeAnswer identifier (now (payload .entry)) (length (now (line .entry))) ⌝ }
     ensures memory { λ r. ⌜ now (line .exit) ≡ after (answerNumbers r) (payloadLine identifier (now (payload .entry))) (now (line .entry)) ⌝ }
 {
     match framing::frame(identifier, payload) {
         Framed::Frame(parts) => {
-            if line.len() < 116 {
+            if line.len() < form::room(identifier) {
                 return Answer::Refused(Refusal::RoomShort);
             }
             Answer::Length(writing::whole(parts, line))
@@ -46,7 +55,7 @@ pub fn make_frame(identifier: u32, payload: &[u8], line: &mut [u8]) -> Answer
 }
 
 // The length of that line; none is built. Refused with 8 or 1.
-pub fn frame_length(identifier: u32, payload: &[u8]) -> Answer
+pub fn frame_length(identifier: Identifier, payload: &[u8]) -> Answer
     ensures { λ r. ⌜ r ≡ lengthAnswer identifier (now (payload .entry)) ⌝ }
 {
     match framing::frame(identifier, payload) {
@@ -56,10 +65,10 @@ pub fn frame_length(identifier: u32, payload: &[u8]) -> Answer
 }
 
 // Bounds between which the length of every frame of a size lies; they need not be reached. Refused with 8 or 1.
-pub fn frame_bounds(identifier: u32, size: usize) -> Bounds
+pub fn frame_bounds(identifier: Identifier, size: usize) -> Bounds
     ensures { λ r. ⌜ r ≡ boundsAnswer identifier size ⌝ }
 {
-    if 2047 < identifier {
+    if form::is_refused(identifier) {
         return Bounds::Refused(Refusal::Identifier);
     }
     if 7 < size {
@@ -69,7 +78,7 @@ pub fn frame_bounds(identifier: u32, size: usize) -> Bounds
     let n = row.bytes;
     let list = sent_list::list();
     let header = header::of(identifier, n);
-    let head = stuffing::count(&list, stuffing::start(header), header, 4);
-    let least = length::total(n, head.drawn, 0);
+    let head = stuffing::of_header(&list, header);
+    let least = length::total(header.fours, n, head.drawn, 0);
     Bounds::Between(least, least + 4)
 }

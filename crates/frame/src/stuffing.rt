@@ -2,9 +2,11 @@
 ghost use mathlib.Core.Path.{_≡_};
 ghost use Prim.Native.Nat.{_+_, _*_, _/_, _^_, _≤_, _<_};
 ghost use Rattle.bits.specs.Rows.{bits};
-ghost use Rattle.bits.specs.Stuffing.{stuffCount, runAfterRow};
+ghost use Rattle.bits.specs.Stuffing.{nothingSent, stuffCount, runAfterRow};
+ghost use Rattle.frame.specs.Parts.{bitsOf, Starts};
 ghost use Rattle.frame.specs.Fours.{runOf, sentOf, sentList, Counts, quietCheck};
 use crate::fours;
+use crate::header::Header;
 
 // The four bits sent last, and how many stuff bits were among what was sent.
 pub(crate) struct Counted {
@@ -22,7 +24,7 @@ pub(crate) fn sent(list: &[u8; 256], last: u64, four: u64) -> u64
 
 // Counts the stuff bits that follow the lowest `count` times four bits of a number.
 pub(crate) fn count(list: &[u8; 256], last: u64, number: u64, count: usize) -> Counted
-    requires { ⌜ (now list ≡ sentList) × (last < 16) × (count ≤ 4) ⌝ }
+    requires { ⌜ (now list ≡ sentList) × (last < 16) × (count ≤ 9) ⌝ }
     ensures { λ r. ⌜ Counts (runOf last) (bits (4 * count) number) r ⌝ }
 {
     let mut last = last;
@@ -38,12 +40,23 @@ pub(crate) fn count(list: &[u8; 256], last: u64, number: u64, count: usize) -> C
     Counted { last, drawn }
 }
 
-// The four bits that stand before the fourth of a header, whose first three draw no stuff bit; before them, as if a 1 had been sent.
-pub(crate) fn start(header: u64) -> u64
-    requires { ⌜ header < 2 ^ 18 ⌝ }
-    ensures { λ r. ⌜ (r ≡ 8 + header / 2 ^ 16) × (r < 16) ⌝ }
+// Counts the stuff bits that follow the bits of a header. For the base form the loop's length is a literal, so that the compiler unrolls it.
+pub(crate) fn of_header(list: &[u8; 256], header: Header) -> Counted
+    requires { ⌜ (now list ≡ sentList) × Starts header ⌝ }
+    ensures { λ r. ⌜ Counts nothingSent (bitsOf header) r ⌝ }
 {
-    8 + header / 0x10000
+    if header.fours == 4 {
+        return count(list, start(header), header.number, 4);
+    }
+    count(list, start(header), header.number, header.fours)
+}
+
+// The four bits that stand before the fourth of a header, whose first three draw no stuff bit; before them, as if a 1 had been sent.
+pub(crate) fn start(header: Header) -> u64
+    requires { ⌜ Starts header ⌝ }
+    ensures { λ r. ⌜ (r ≡ 8 + header .number / 2 ^ (4 * header .fours)) × (r < 16) ⌝ }
+{
+    8 + (header.number >> (4 * header.fours))
 }
 
 // The four bits sent last behind a data field that draws no stuff bit, `last` being those before it.

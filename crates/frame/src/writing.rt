@@ -7,10 +7,11 @@ ghost use lib.Seq.{sets};
 ghost use Rattle.bits.specs.Rows.{bits};
 ghost use Rattle.bits.specs.Stuffing.{nothingSent, stuffed, stuffCount};
 ghost use Rattle.frame.specs.Fours.{runOf, sentList, byteList};
-ghost use Rattle.frame.specs.Parts.{Fit, lineIn};
+ghost use Rattle.frame.specs.Parts.{bitsOf, Starts, Fit, lineIn};
 ghost use Rattle.frame.specs.Writing.{Written, tailRow};
 use crate::byte_list;
 use crate::fours;
+use crate::header::Header;
 use crate::parts::Parts;
 use crate::sent_list;
 use crate::stuffing;
@@ -27,25 +28,30 @@ pub(crate) fn whole(parts: Parts, line: &mut [u8]) -> usize
     ensures length { λ r. ⌜ r ≡ length (lineIn parts) ⌝ }
     ensures memory { λ r. ⌜ now (line .exit) ≡ lineIn parts ++ drop (length (lineIn parts)) (now (line .entry)) ⌝ }
 {
-    let crc = crc::of_frame(parts.header, parts.field);
+    let head = parts.header;
+    let crc = crc::of_frame(head.number, parts.field);
     let list = sent_list::list();
     let bytes = byte_list::list();
-    let behind_header = header(&list, &bytes, parts.header, line);
+    let behind_header = header(&list, &bytes, head, line);
     let behind_field = field(&bytes, parts.field, parts.n, behind_header, line);
     tail(&list, &bytes, crc, behind_field, line)
 }
 
-// Writes a header. Its first three bits draw no stuff bit.
-fn header(list: &[u8; 256], bytes: &[u32; 16], header: u64, line: &mut [u8]) -> Spot
-    requires { ⌜ (now list ≡ sentList) × (now bytes ≡ byteList) × (header < 2 ^ 18) × (length (stuffed nothingSent (bits 19 header)) ≤ length (now line)) ⌝ }
-    ensures { λ r. ⌜ Written nothingSent 0 (bits 19 header) (now (line .entry)) (now (line .exit)) r ⌝ }
+// Writes a header. Its first three bits draw no stuff bit; behind them the base form has a loop whose length is a literal, so that the
+// compiler unrolls it.
+fn header(list: &[u8; 256], bytes: &[u32; 16], header: Header, line: &mut [u8]) -> Spot
+    requires { ⌜ (now list ≡ sentList) × (now bytes ≡ byteList) × Starts header × (length (stuffed nothingSent (bitsOf header)) ≤ length (now line)) ⌝ }
+    ensures { λ r. ⌜ Written nothingSent 0 (bitsOf header) (now (line .entry)) (now (line .exit)) r ⌝ }
 {
-    let at = plain(header / 0x10000, 3, 0, line);
+    let at = plain(header.number >> (4 * header.fours), 3, 0, line);
     let spot = Spot {
         last: stuffing::start(header),
         at,
     };
-    stuffed(list, bytes, header, 4, spot, line)
+    if header.fours == 4 {
+        return stuffed(list, bytes, header.number, 4, spot, line);
+    }
+    stuffed(list, bytes, header.number, header.fours, spot, line)
 }
 
 // Writes a data field, which draws no stuff bit.
@@ -77,7 +83,7 @@ fn stuffed(
     spot: Spot,
     line: &mut [u8],
 ) -> Spot
-    requires { ⌜ (now list ≡ sentList) × (now bytes ≡ byteList) × (count ≤ 4) × (spot .last < 16) × (spot .at + length (stuffed (runOf (spot .last)) (bits (4 * count) number)) ≤ length (now line)) ⌝ }
+    requires { ⌜ (now list ≡ sentList) × (now bytes ≡ byteList) × (count ≤ 9) × (spot .last < 16) × (spot .at + length (stuffed (runOf (spot .last)) (bits (4 * count) number)) ≤ length (now line)) ⌝ }
     ensures { λ r. ⌜ Written (runOf (spot .last)) (spot .at) (bits (4 * count) number) (now (line .entry)) (now (line .exit)) r ⌝ }
 {
     let mut spot = spot;

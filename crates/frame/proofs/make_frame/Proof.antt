@@ -2,12 +2,13 @@
 -- Assumes nothing.
 use mathlib.Core.Path.{_≡_, refl, sym, ap, _∙_, subst}
 use mathlib.Core.List.{List, _++_}
-use Prim.Native.Nat.{ℕ}
+use Prim.Native.Nat.{ℕ, _≤_, _<_}
 use native.Mathlib.Nat.{le-trans}
 use borrow.Author.Needs.{needs}
 use lib.ListN.{length, drop}
 use Rattle.refusals.specs.declared.Answer.the-variants.{Length}
 use Rattle.refusals.proofs.After.{refused-keeps}
+use Rattle.frame.specs.Identifier.{roomFor}
 use Rattle.frame.specs.Answers.{payloadLine}
 use Rattle.frame.specs.Framing.{Gives, IsFrame}
 use Rattle.frame.specs.declared.framing.Framed.{Framed}
@@ -35,15 +36,24 @@ parts : (c : tie.After-parts) →
     IsFrame (c .parts .given .0 .0) (args .identifier) (args .payload .now)
 parts c = framed (c .before .before) _ (c .parts .given .1)
 
+room-requires : tie.Need-room-requires
+room-requires c κs = search needs
+
 returns : tie.Need-returns
 returns c =
-    let frame = parts (c .before .before) in
-    (sym (make-short _ _ _ (frame .allowed) (frame .short) (c .if1 .taken)), refl)
+    let frame = parts (c .before .before .before) in
+    let room = length (c .before .before .before .before .before .before .before .before .args .line .now) in
+    let little = subst (λ (k : ℕ). room < k) (c .before .room .ensures) (c .if1 .taken) in
+    (sym (make-short _ _ _ (frame .allowed) (frame .short) little), refl)
+
+-- room enough, by the test
+roomy : (c : tie.Else1) → roomFor (c .before .before .before .before .before .before .before .before .args .identifier) ≤ length (c .before .before .before .before .before .before .before .before .args .line .now)
+roomy c = subst (λ (k : ℕ). k ≤ length (c .before .before .before .before .before .before .before .before .args .line .now)) (c .before .room .ensures) (c .if1 .left)
 
 whole-requires : tie.Need-whole-requires
 whole-requires c κs =
-    let frame = parts (c .before .before .before) in
-    (frame .fit, le-trans (frame .enough) (c .before .if1 .left))
+    let frame = parts (c .before .before .before .before) in
+    (frame .fit, le-trans (frame .enough) (roomy (c .before)))
 
 enum-known-refusal : tie.Need-enum-known-refusal
 enum-known-refusal c = search needs
@@ -53,10 +63,10 @@ same-length c = search needs
 
 returns-2 : tie.Need-returns-2
 returns-2 c =
-    let frame = parts (c .before .before .before .before .before .before) in
+    let frame = parts (c .before .before .before .before .before .before .before) in
     let whole = c .before .before .whole .ensures in
-    let room = c .before .before .before .before .if1 .left in
-    let old = c .before .before .before .before .before .before .before .before .before .before .before .args .line .now in (
+    let room = roomy (c .before .before .before .before) in
+    let old = c .before .before .before .before .before .before .before .before .before .before .before .before .args .line .now in (
       ap Length (whole .0 ∙ ap length (frame .line-is)) ∙ sym (make-accepts _ _ _ (frame .allowed) (frame .short) room),
       whole .1 ∙ ap (λ (l : List ℕ). l ++ drop (length l) old) (frame .line-is),
     )
@@ -74,6 +84,7 @@ make-frame-spec =
     (tie.spec
     frame-requires
     enum-known-parts
+    room-requires
     returns
     whole-requires
     enum-known-refusal

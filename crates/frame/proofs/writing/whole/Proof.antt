@@ -48,13 +48,13 @@ list-requires-2 c κs = search needs
 
 header-requires : tie.Need-header-requires
 header-requires c κs =
-    let start = c .before .before .before .before .before .before .before in
+    let start = c .before .before .before .before .before .before .before .before in
     let fit = start .pre .0 in
     (c .before .before .before .before .list .ensures, c .before .before .before .list2 .ensures, fit .starts, omega (arith, start .pre .1, room (start .args .parts) fit, room-before (start .args .parts) fit))
 
 field-requires : tie.Need-field-requires
 field-requires c κs =
-    let start = c .before .before .before .before .before .before .before .before .before .before .before .before in
+    let start = c .before .before .before .before .before .before .before .before .before .before .before .before .before in
     let p = start .args .parts in
     let fit = start .pre .0 in
     let header = c .before .before .before .before .header .ensures in (
@@ -68,7 +68,7 @@ field-requires c κs =
 tail-requires : tie.Need-tail-requires
 unfolding before
 tail-requires c κs =
-    let start = c .before .before .before .before .before .before .before .before .before .before .before .before .before .before .before .before .before .before in
+    let start = c .before .before .before .before .before .before .before .before .before .before .before .before .before .before .before .before .before .before .before in
     let p = start .args .parts in
     let fit = start .pre .0 in
     let check = crc-of-parts p _ fit (c .before .before .before .before .before .before .before .before .before .before .before .before .before .before .before .before .of-frame .ensures) in
@@ -87,7 +87,7 @@ same-length c = search needs
 
 returns : tie.Need-returns
 returns c =
-    let start = c .before .before .before .before .before .before .before .before .before .before .before .before .before .before .before .before .before .before .before .before .before in
+    let start = c .before .before .before .before .before .before .before .before .before .before .before .before .before .before .before .before .before .before .before .before .before .before in
     let p = start .args .parts in
     let check = crc-of-parts p _ (start .pre .0) (c .before .before .before .before .before .before .before .before .before .before .before .before .before .before .before .before .before .before .before .of-frame .ensures) in
     let header = c .before .before .before .before .before .before .before .before .before .before .before .before .before .header .ensures in
