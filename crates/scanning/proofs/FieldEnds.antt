@@ -1,66 +1,91 @@
 -- From row to row. Assumes nothing.
 --     line-begins     before the first row
 --     begun, field-begins    into a row
---     Ends, field-ends    where reading stops in it: to the next one, or the line is refused as the definition says
+--     Ends, field-ends    where reading stops in it: to the next one, or the line is refused as the definition says; IDE tells the form
 --     line-longer     behind the last row: the line goes on,
 --     line-read       or it is read
-use mathlib.Core.Path.{_≡_, refl, sym, ap, _∙_, subst}
-use mathlib.Core.Bool.{Bool, true, false, cond, _||_}
+use mathlib.Core.Path.{_≡_, refl, sym, ap, ap₂, _∙_, subst}
+use mathlib.Core.Bool.{Bool, true, false, cond, not, _||_, true≢false}
 use mathlib.Core.List.{List, [], _++_}
-use Prim.Native.Nat.{ℕ, zero, suc, _+_, _-_, _*_, _%_, _≤_, _<_}
+use Prim.Native.Nat.{ℕ, zero, suc, _+_, _-_, _*_, _/_, _%_, _≤_, _<_}
 use native.Mathlib.Omega.{arith}
 use lib.Dec.{eqb, ltb, lit<}
 use lib.ListN.{length, getD, drop-of-length-le}
 use lib.Seq.{drop-cons}
-use borrow.Author.Tests.{eq-eqb, ne-eqb, ltb-true, ltb-false}
+use borrow.Author.Tests.{lt-ltb, le-ltb, eq-eqb, ne-eqb, ltb-true, ltb-false}
 use Rattle.bits.specs.Rows.{bits, number}
 use Rattle.bits.specs.declared.Run.{Run}
 use Rattle.bits.specs.Stuffing.{nothingSent}
-use Rattle.refusals.specs.declared.Refusal.the-variants.{FieldLength, LineLength}
+use Rattle.refusals.specs.declared.Refusal.the-variants.{FieldLength, LineLength, FixedBit}
 use Rattle.crc.specs.Crc.{crc}
 use Rattle.crc.specs.Dlc.{dataBytes}
-use Rattle.scanning.specs.Scan.{identifierIn, dlcIn, complete, crcStart, crcRight, slotRight, Verdict, right, shown, stopped, onward, scan, scanned}
+use Rattle.scanning.specs.Scan.{longIn, headerWidth, dataStart, identifierIn, dlcIn, complete, crcStart, crcRight, slotRight, formRight, beforeIde, Verdict, right, wrong, shown, onward, scan, scanned}
 use Rattle.scanning.specs.Held.{dataIn}
-use Rattle.scanning.specs.Steps.{widthsOf, least, headerRead, fieldRead, crcRead, partEnd, fieldEnd, Holds, Reads}
+use Rattle.scanning.specs.Steps.{widthsOf, least, twice, formRead, headerEnd, headerRead, fieldRead, crcRead, partEnd, fieldEnd, Stopped, Holds, Reads}
 use Rattle.scanning.specs.declared.Reading.{Reading}
 use Rattle.scanning.specs.declared.seen.Seen.{Seen}
 use Rattle.scanning.specs.declared.seen.Step.{Step}
 use Rattle.scanning.specs.declared.seen.Step.the-variants.{Next, Refused}
-use Rattle.scanning.proofs.Positions.{widthAt, startOf, endOf, end-is, next-start, Stage, before-dlc, dlc, data-bits, crc-bits, ack-slot, ending, stage, first-start, data-start, frame-end}
-use Rattle.scanning.proofs.Registers.{Fine, Registers, in-header, in-data, in-crc, behind, crc-length, dlc-known, dlc-read, header-put, field-put, crc-there, identifier-there, data-there}
-use Rattle.scanning.proofs.Verdicts.{bit-too-many, dlc-taken, taken-dlc, length-refused, crc-refused, nothing-shown}
-use Rattle.scanning.proofs.RawBits.{none}
+use Rattle.scanning.proofs.Partial.{width-least, start-least}
+use Rattle.scanning.proofs.Positions.{widthAt, startOf, endOf, end-is, next-start, Stage, first-bit, ide, before-dlc, dlc, data-bits, crc-bits, ack-slot, ending, stage, first-start, form-start, data-start, frame-end, crc-known}
+use Rattle.scanning.proofs.Registers.{width, Registers, in-header, in-data, in-crc, behind, crc-length, form-told, dlc-known, form-read, dlc-read, header-put, field-put, crc-there, identifier-there, data-there}
+use Rattle.scanning.proofs.Verdicts.{bit-too-many, dlc-taken, taken-dlc, form-refused, length-refused, crc-refused, nothing-shown}
+use Rattle.scanning.proofs.RawBits.{none, twice-told}
 use Rattle.scanning.proofs.Passing.{rest}
-use Rattle.scanning.proofs.Keeping.{bytes, pending, Told, Between, Within, least-not, missing}
+use Rattle.scanning.proofs.Keeping.{bytes, pending, Told, Formed, Between, Within, least-not}
+use Rattle.scanning.proofs.NextBit.{missing}
+use Rattle.scanning.proofs.Widths.{longBehind}
 
--- behind a row other than DLC and CRC the frame shows nothing, where the bit in the ACK slot may stand
-nothing-behind : (reading : Reading) (f header field n : ℕ) (frame : List ℕ) (place : ℕ) → f < 9 → (f ≡ 3 → ⊥) → (f ≡ 5 → ⊥)
-    → (f ≡ 7 → slotRight reading frame ≡ true) → length frame ≡ endOf f (header % 16) → Registers f header field n frame
-    → shown reading frame place ≡ right
-unfolding crcStart
-nothing-behind reading f header field n frame place h not-dlc not-crc slot at registers = go (stage f (header % 16) h) registers
+-- behind a row other than IDE, DLC and CRC the frame shows nothing, where the bit in the ACK slot may stand
+nothing-behind : (reading : Reading) (run : Run) (f : ℕ) (long : Bool) (header field n : ℕ) (frame : List ℕ) (place : ℕ) → f < 10
+    → (f ≡ 1 → ⊥) → (f ≡ 4 → ⊥) → (f ≡ 6 → ⊥) → (f ≡ 8 → slotRight reading frame ≡ true) → length frame ≡ endOf f long (header % 16)
+    → (1 < f → Formed long frame) → Registers f header field n frame → shown reading run frame place ≡ right
+nothing-behind reading run f long header field n frame place h not-ide not-dlc not-crc slot at formed registers =
+    go (stage long (header % 16) f h) registers
   where
-    known : 3 < f → dlcIn frame ≡ header % 16
-    known = dlc-known f header field n frame registers
+    start : 4 < f → crcStart frame ≡ headerWidth long + 8 * (header % 16)
+    start = crc-known f long (header % 16) frame (λ g. formed g .form-is) (dlc-known f header field n frame registers)
 
-    go : Stage f (header % 16) → Registers f header field n frame → shown reading frame place ≡ right
-    go (before-dlc g e) r =
-        nothing-shown reading frame place (λ d. absurd (omega (arith, at))) (λ d. absurd (omega (arith, at))) (λ d. absurd (omega (arith, at)))
+    -- the header's bits are fewer than those before the CRC
+    least : 19 ≤ dataStart frame
+    least = width-least (longIn frame)
+
+    most : dataStart frame ≤ crcStart frame
+    most = start-least frame .1
+
+    wide : 19 ≤ headerWidth long
+    wide = width-least long
+
+    go : Stage long (header % 16) f → Registers f header field n frame → shown reading run frame place ≡ right
+    go (first-bit g e) r =
+        nothing-shown reading run frame place (λ d. absurd (omega (arith, at))) (λ d. absurd (omega (arith, at, least)))
+        (λ d. absurd (omega (arith, at, least, most))) (λ d. absurd (omega (arith, at, least, most)))
+    go (ide g e) r = absurd (not-ide g)
+    go (before-dlc g i e) r =
+        let is = ap headerWidth (formed g .form-is) in
+        nothing-shown reading run frame place (λ d. formed g .same) (λ d. absurd (omega (arith, at, is)))
+        (λ d. absurd (omega (arith, at, is, most))) (λ d. absurd (omega (arith, at, is, most)))
     go (dlc g e) r = absurd (not-dlc g)
-    go (data-bits g s e) (in-header i d l) = absurd (omega arith)
-    go (data-bits g s e) (in-data k i fine d l) =
-        let is = known (omega arith) in
-        nothing-shown reading frame place (λ d. dlc-taken frame (λ one. fine .not-one (sym is ∙ one)) (omega (arith, fine .few, is)))
-        (λ d. absurd (omega (arith, at, is))) (λ d. absurd (omega (arith, at, is)))
-    go (data-bits g s e) (in-crc k i put d l) = absurd (omega arith)
-    go (data-bits g s e) (behind m i put d l) = absurd (omega arith)
-    go (crc-bits g s e) r = absurd (not-crc g)
+    go (data-bits g e) (in-header i d l) = absurd (omega arith)
+    go (data-bits g e) (in-data k i fine d l) =
+        let late : 4 < f = omega arith in
+        let is = dlc-known f header field n frame registers late in
+        nothing-shown reading run frame place (λ d. absurd (omega (arith, at, wide)))
+        (λ d. dlc-taken frame (λ one. fine .not-one (sym is ∙ one)) (omega (arith, fine .few, is)))
+        (λ d. absurd (omega (arith, at, start late))) (λ d. absurd (omega (arith, at, start late)))
+    go (data-bits g e) (in-crc k i put d l) = absurd (omega arith)
+    go (data-bits g e) (behind m i put d l) = absurd (omega arith)
+    go (crc-bits g e) r = absurd (not-crc g)
     go (ack-slot i e) r =
-        nothing-shown reading frame place (λ d. absurd (omega (arith, at))) (λ d. absurd (omega (arith, at, known (omega arith)))) (λ d. slot i)
+        let late : 4 < f = omega arith in
+        let is = ap headerWidth (formed (omega arith) .form-is) in
+        nothing-shown reading run frame place (λ d. absurd (omega (arith, at, wide))) (λ d. absurd (omega (arith, at, is)))
+        (λ d. absurd (omega (arith, at, start late))) (λ d. slot i)
     go (ending g o e) r =
-        let is = known (omega arith) in
-        nothing-shown reading frame place (λ d. absurd (omega (arith, at))) (λ d. absurd (omega (arith, at, is)))
-        (λ d. absurd (e (omega (arith, at, is))))
+        let late : 4 < f = omega arith in
+        let is = ap headerWidth (formed (omega arith) .form-is) in
+        nothing-shown reading run frame place (λ d. absurd (omega (arith, at, wide, o))) (λ d. absurd (omega (arith, at, is, o)))
+        (λ d. absurd (omega (arith, at, start late, o))) (λ d. absurd (e (omega (arith, at, start late))))
 
 -- into a row: its bits are all to come
 abbrev pub begun : List ℕ → Seen → ℕ → Seen
@@ -75,46 +100,48 @@ begun line seen end =
       field = seen .field;
     }
 
-pub field-begins : (reading : Reading) (line : List ℕ) (f : ℕ) (seen : Seen) (run : Run) (frame : List ℕ) (width : ℕ)
-    → f < 9 → width ≡ widthAt f (bytes seen) → Between reading line f seen run frame
-    → Within reading line f (begun line seen (seen .place + width)) run width frame
+pub field-begins : (reading : Reading) (line : List ℕ) (f : ℕ) (long : Bool) (seen : Seen) (run : Run) (frame : List ℕ) (width : ℕ)
+    → f < 10 → width ≡ widthAt f long (bytes seen) → Between reading line f long seen run frame
+    → Within reading line f long (begun line seen (seen .place + width)) run width frame
 unfolding widthsOf
-field-begins reading line f seen run frame width h e b =
+field-begins reading line f long seen run frame width h e b =
     record {
-      leads = b .leads ∙ ap (λ (v : Verdict). onward v (rest reading line seen run frame)) (sym (nothing width refl));
+      leads = b .leads ∙ ap (λ (v : Verdict). onward (seen .place - 1) v (rest reading line seen run frame)) (sym (nothing width refl));
       end-is = refl;
       stop-is = refl;
       at-is = end;
       from = omega (arith, b .at-is);
+      formed = b .formed;
       registers = b .registers;
-      slot = λ i z. absurd (some 7 (lit< tt) z i);
+      slot = λ i z. absurd (some 8 (lit< tt) z i);
       fresh = b .fresh;
       reached = b .reached;
       behind = b .behind;
     }
   where
-    end : length frame + width ≡ endOf f (bytes seen)
-    end = omega (arith, b .at-is, e, end-is f (bytes seen))
+    end : length frame + width ≡ endOf f long (bytes seen)
+    end = omega (arith, b .at-is, e, end-is long (bytes seen) f)
 
-    some : (k : ℕ) → 0 < widthAt k (bytes seen) → width ≡ 0 → f ≡ k → ⊥
+    some : (k : ℕ) → 0 < widthAt k long (bytes seen) → width ≡ 0 → f ≡ k → ⊥
     some k p z i =
-        let same : widthAt f (bytes seen) ≡ widthAt k (bytes seen) = ap (λ (j : ℕ). widthAt j (bytes seen)) i in
+        let same : widthAt f long (bytes seen) ≡ widthAt k long (bytes seen) = ap (λ (j : ℕ). widthAt j long (bytes seen)) i in
         omega (arith, e, same)
 
-    nothing : (k : ℕ) → width ≡ k → pending reading k frame (seen .place) ≡ right
+    nothing : (k : ℕ) → width ≡ k → pending reading run k frame (seen .place) ≡ right
     nothing zero d =
-        nothing-behind reading f (seen .header) (seen .field) (seen .number) frame (seen .place - 1) h (some 3 (lit< tt) d) (some 5 (lit< tt) d)
-        (λ i. absurd (some 7 (lit< tt) d i)) (omega (arith, end)) (b .registers)
+        nothing-behind reading run f long (seen .header) (seen .field) (seen .number) frame (seen .place - 1) h (some 1 (lit< tt) d)
+        (some 4 (lit< tt) d) (some 6 (lit< tt) d) (λ i. absurd (some 8 (lit< tt) d i)) (omega (arith, end)) (b .formed) (b .registers)
     nothing (suc k) d = refl
 
 -- before the first row
 pub line-begins : (reading : Reading) (line : List ℕ)
-    → Between reading line 0 (record { stop = 0; end = 0; place = 0; raw = 1; number = 0; header = 0; field = 0 }) nothingSent []
+    → Between reading line 0 false (record { stop = 0; end = 0; place = 0; raw = 1; number = 0; header = 0; field = 0 }) nothingSent []
 unfolding scanned bits
 line-begins reading line =
     record {
       leads = refl;
-      at-is = sym (first-start 0);
+      at-is = sym (first-start false 0);
+      formed = λ g. absurd (omega arith);
       registers = in-header (omega arith) refl (lit< tt);
       told = λ few. none refl refl refl;
       fresh = λ e. refl;
@@ -125,62 +152,139 @@ line-begins reading line =
 -- ---- behind a row's last bit
 
 -- the registers do not change where no part ends
-passed-on : (f header field n : ℕ) (frame : List ℕ) → (f ≡ 3 → ⊥) → (f ≡ 4 → ⊥) → (f ≡ 5 → ⊥) → Registers f header field n frame
+passed-on : (f header field n : ℕ) (frame : List ℕ) → (f ≡ 4 → ⊥) → (f ≡ 5 → ⊥) → (f ≡ 6 → ⊥) → Registers f header field n frame
     → Registers (f + 1) header field n frame
 passed-on f header field n frame not-dlc not-data not-crc (in-header g e l) = in-header (omega (arith, not-dlc)) e l
 passed-on f header field n frame not-dlc not-data not-crc (in-data k g fine e l) = absurd (not-data g)
 passed-on f header field n frame not-dlc not-data not-crc (in-crc k g put e l) = absurd (not-crc g)
 passed-on f header field n frame not-dlc not-data not-crc (behind m g put e l) = behind m (omega arith) put e l
 
--- what the end of row f leads to
-abbrev pub Ends : Reading → List ℕ → ℕ → Run → List ℕ → Step → Type 0
-Ends reading line f run frame (Next next) = Between reading line (f + 1) next run frame
-Ends reading line f run frame (Refused refusal) = scanned reading line ≡ stopped refusal
+-- IDE and the bit before it, from the number that ends with them
+form-there : (n : ℕ) (frame : List ℕ) → (getD frame 12 0 ≡ n / 2 % 2) × (getD frame 13 0 ≡ n % 2)
+    → (formRight frame ≡ twice n) × (longIn frame ≡ eqb (n % 2) 1)
+unfolding twice longIn
+form-there n frame e = (ap₂ eqb (e .0) (e .1), ap (λ (b : ℕ). eqb b 1) (e .1))
 
-module _ (reading : Reading) (line : List ℕ) (f : ℕ) (seen : Seen) (run : Run) (left : ℕ) (frame : List ℕ) (h : f < 9)
-    (w : Within reading line f seen run left frame) (told-of : Told seen run frame) (z : left ≡ 0) where
-  at : length frame ≡ endOf f (bytes seen)
+-- what the end of row f leads to, with this form behind it
+abbrev pub Ends : Reading → List ℕ → ℕ → Bool → Run → List ℕ → Step → Type 0
+Ends reading line f long run frame (Next next) = Between reading line (f + 1) long next run frame
+Ends reading line f long run frame (Refused refusal) = Stopped (scanned reading line) refusal
+
+module _ (reading : Reading) (line : List ℕ) (f : ℕ) (long : Bool) (seen : Seen) (run : Run) (left : ℕ) (frame : List ℕ) (h : f < 10)
+    (w : Within reading line f long seen run left frame) (told-of : Told seen run frame) (z : left ≡ 0) where
+  at : length frame ≡ endOf f long (bytes seen)
   at = omega (arith, w .at-is)
 
-  leads : (v : Verdict) → shown reading frame (seen .place - 1) ≡ v → scanned reading line ≡ onward v (rest reading line seen run frame)
+  leads : (v : Verdict) → shown reading run frame (seen .place - 1) ≡ v
+      → scanned reading line ≡ onward (seen .place - 1) v (rest reading line seen run frame)
   leads v e =
-      w .leads ∙ ap (λ (k : ℕ). onward (pending reading k frame (seen .place)) (rest reading line seen run frame)) z
-      ∙ ap (λ (u : Verdict). onward u (rest reading line seen run frame)) e
+      w .leads ∙ ap (λ (k : ℕ). onward (seen .place - 1) (pending reading run k frame (seen .place)) (rest reading line seen run frame)) z
+      ∙ ap (λ (u : Verdict). onward (seen .place - 1) u (rest reading line seen run frame)) e
 
-  nothing-here : (f ≡ 3 → ⊥) → (f ≡ 5 → ⊥) → shown reading frame (seen .place - 1) ≡ right
-  nothing-here not-dlc not-crc =
-      nothing-behind reading f (seen .header) (seen .field) (seen .number) frame (seen .place - 1) h not-dlc not-crc (λ i. w .slot i z) at (w .registers)
+  nothing-here : (f ≡ 1 → ⊥) → (f ≡ 4 → ⊥) → (f ≡ 6 → ⊥) → shown reading run frame (seen .place - 1) ≡ right
+  nothing-here not-ide not-dlc not-crc =
+      nothing-behind reading run f long (seen .header) (seen .field) (seen .number) frame (seen .place - 1) h not-ide not-dlc not-crc
+      (λ i. w .slot i z) at (w .formed) (w .registers)
 
-  other-ends : (f ≡ 3 → ⊥) → (f ≡ 4 → ⊥) → (f ≡ 5 → ⊥) → Ends reading line f run frame (partEnd f seen)
-  unfolding partEnd
-  other-ends not-dlc not-data not-crc = rw (ne-eqb f 3 not-dlc, ne-eqb f 4 not-data, ne-eqb f 5 not-crc) (record {
-    leads = leads right (nothing-here not-dlc not-crc);
-    at-is = at ∙ next-start f (bytes seen);
-    registers = passed-on f (seen .header) (seen .field) (seen .number) frame not-dlc not-data not-crc (w .registers);
-    told = told-of;
-    fresh = w .fresh;
-    reached = w .reached;
-    behind = w .behind;
-  })
+  -- a row behind which nothing is looked at
+  other-ends : (f ≡ 1 → ⊥) → (f ≡ 4 → ⊥) → (f ≡ 5 → ⊥) → (f ≡ 6 → ⊥) → Ends reading line f long run frame (Next seen)
+  other-ends not-ide not-dlc not-data not-crc =
+      record {
+        leads = leads right (nothing-here not-ide not-dlc not-crc);
+        at-is = at ∙ next-start long (bytes seen) f;
+        formed = λ g. w .formed (omega (arith, not-ide));
+        registers = passed-on f (seen .header) (seen .field) (seen .number) frame not-dlc not-data not-crc (w .registers);
+        told = told-of;
+        fresh = w .fresh;
+        reached = w .reached;
+        behind = w .behind;
+      }
 
-  header-ends : f ≡ 3 → endOf f (bytes seen) ≡ 19 → Ends reading line f run frame (headerRead seen)
-  unfolding headerRead crcStart
+  -- behind IDE
+  form-ends : f ≡ 1 → endOf f long (bytes seen) ≡ 14 → Ends reading line f (eqb (seen .number % 2) 1) run frame (formRead seen)
+  unfolding formRead
+  form-ends i end = read (w .registers)
+    where
+      to : Bool
+      to = eqb (seen .number % 2) 1
+
+      fourteen : length frame ≡ 14
+      fourteen = at ∙ end
+
+      tells : twice (seen .raw) ≡ not (eqb (run .count) 1)
+      tells =
+          twice-told (seen .raw) run (told-of (omega (arith, fourteen, start-least frame .0))) (λ e. omega (arith, fourteen, w .fresh e))
+
+      -- the bit before IDE is not the same
+      refused : (k : ℕ) → beforeIde run (seen .place - 1) ≡ k → formRight frame ≡ false → Stopped (scanned reading line) (FixedBit k)
+      refused k e other =
+          (seen .place - 1, leads _ (form-refused reading run frame (seen .place - 1) fourteen other ∙ ap (λ (j : ℕ). wrong (FixedBit j)) e))
+
+      at-place : (t u : Bool) → eqb (run .count) 1 ≡ t → u ≡ not t → formRight frame ≡ false
+          → Ends reading line f to run frame (cond u (Refused (FixedBit (seen .place - 3))) (Refused (FixedBit (seen .place - 2))))
+      at-place true true d same other = absurd (true≢false same)
+      at-place true false d same other = refused _ (rw d (omega arith)) other
+      at-place false true d same other = refused _ (rw d (omega arith)) other
+      at-place false false d same other = absurd (true≢false (sym same))
+
+      read : Registers f (seen .header) (seen .field) (seen .number) frame → Ends reading line f to run frame (formRead seen)
+      read (in-header g e l) = go (twice (seen .number)) refl
+        where
+          told-bits : (formRight frame ≡ twice (seen .number)) × (longIn frame ≡ to)
+          told-bits = form-there (seen .number) frame (form-read (seen .number) frame fourteen e)
+
+          go : (t : Bool) → twice (seen .number) ≡ t
+              → Ends reading line f to run frame
+              (cond t (Next seen) (cond (twice (seen .raw)) (Refused (FixedBit (seen .place - 3))) (Refused (FixedBit (seen .place - 2)))))
+          go true d =
+              let early = start-least frame .0 in
+              let next : f + 1 ≡ 2 = omega arith in
+              record {
+                leads =
+                    leads right
+                    (nothing-shown reading run frame (seen .place - 1) (λ x. told-bits .0 ∙ d)
+                    (λ x. absurd (omega (arith, fourteen, width-least (longIn frame)))) (λ x. absurd (omega (arith, fourteen, early)))
+                    (λ x. absurd (omega (arith, fourteen, early))));
+                at-is = fourteen ∙ sym (ap (λ (k : ℕ). startOf k to (bytes seen)) next ∙ form-start to (bytes seen));
+                formed = λ x. record { form-is = told-bits .1; same = told-bits .0 ∙ d };
+                registers =
+                    passed-on f (seen .header) (seen .field) (seen .number) frame (λ j. omega arith) (λ j. omega arith) (λ j. omega arith)
+                    (w .registers);
+                told = told-of;
+                fresh = w .fresh;
+                reached = w .reached;
+                behind = w .behind;
+              }
+          go false d = at-place (eqb (run .count) 1) (twice (seen .raw)) refl tells (told-bits .0 ∙ d)
+      read (in-data k g fine e l) = absurd (omega arith)
+      read (in-crc k g put e l) = absurd (omega arith)
+      read (behind m g put e l) = absurd (omega arith)
+
+  -- behind the header's other bits the form is known
+  width-is : 1 < f → dataStart frame ≡ headerWidth long
+  width-is g = ap headerWidth (w .formed g .form-is)
+
+  header-ends : f ≡ 4 → endOf f long (bytes seen) ≡ headerWidth long → Ends reading line f long run frame (headerRead seen)
+  unfolding headerRead
   header-ends i end = read (w .registers)
     where
-      nineteen : length frame ≡ 19
-      nineteen = at ∙ end
+      start : length frame ≡ dataStart frame
+      start = at ∙ end ∙ sym (width-is (omega arith))
 
-      read : Registers f (seen .header) (seen .field) (seen .number) frame → Ends reading line f run frame (headerRead seen)
-      read (in-header g e l) = go (eqb (seen .number % 16) 1 || ltb 8 (seen .number % 16)) refl
+      late : 14 < length frame
+      late = omega (arith, start, width-least (longIn frame))
+
+      read : Registers f (seen .header) (seen .field) (seen .number) frame → Ends reading line f long run frame (headerRead seen)
+      read (in-header g e l) = go (eqb (n % 16) 1 || ltb 8 (n % 16)) refl
         where
           n : ℕ
           n = seen .number
 
           there : dlcIn frame ≡ n % 16
-          there = dlc-read n frame nineteen e
+          there = dlc-read n frame start e l
 
           go : (t : Bool) → (eqb (n % 16) 1 || ltb 8 (n % 16)) ≡ t
-              → Ends reading line f run frame (cond t (Refused (FieldLength (seen .place - 1))) (Next (record {
+              → Ends reading line f long run frame (cond t (Refused (FieldLength (seen .place - 1))) (Next (record {
                 stop = seen .stop;
                 end = seen .end;
                 place = seen .place;
@@ -189,17 +293,21 @@ module _ (reading : Reading) (line : List ℕ) (f : ℕ) (seen : Seen) (run : Ru
                 header = n;
                 field = seen .field;
               })))
-          go true d = leads _ (length-refused reading frame (seen .place - 1) nineteen (rw there d))
+          go true d = (seen .place - 1, leads _ (length-refused reading run frame (seen .place - 1) late start (rw there d)))
           go false d =
               let taken = taken-dlc frame (rw there d) in
-              let fine : Fine n = record { not-one = λ one. taken .0 (there ∙ one); few = omega (arith, taken .1, there) } in
-              let next : f + 1 ≡ 4 = omega arith in
+              let most = start-least frame .1 in
+              let next : f + 1 ≡ 5 = omega arith in
               record {
-                leads = leads right (nothing-shown reading frame (seen .place - 1) (λ x. rw there d) (λ x. absurd (omega (arith, nineteen))) (λ x. absurd (omega (arith, nineteen))));
-                at-is = nineteen ∙ sym (ap (λ (k : ℕ). startOf k (n % 16)) next ∙ data-start (n % 16));
+                leads =
+                    leads right
+                    (nothing-shown reading run frame (seen .place - 1) (λ x. absurd (omega (arith, late))) (λ x. rw there d)
+                    (λ x. absurd (omega (arith, start, most))) (λ x. absurd (omega (arith, start, most))));
+                at-is = at ∙ end ∙ sym (ap (λ (k : ℕ). startOf k long (n % 16)) next ∙ data-start long (n % 16));
+                formed = λ x. w .formed (omega arith);
                 registers =
                     subst (λ (k : ℕ). Registers k n (seen .field) 0 frame) (sym next)
-                    (header-put (seen .field) n frame nineteen fine e);
+                    (header-put n frame start e l (seen .field) (λ one. taken .0 (there ∙ one)) (omega (arith, taken .1, there)));
                 told = told-of;
                 fresh = w .fresh;
                 reached = w .reached;
@@ -209,22 +317,28 @@ module _ (reading : Reading) (line : List ℕ) (f : ℕ) (seen : Seen) (run : Ru
       read (in-crc k g put e l) = absurd (omega arith)
       read (behind m g put e l) = absurd (omega arith)
 
-  data-ends : f ≡ 4 → endOf f (bytes seen) ≡ 19 + 8 * bytes seen → Ends reading line f run frame (fieldRead seen)
+  -- and told by the header's number
+  width-told : 4 < f → width (seen .header) ≡ headerWidth long
+  width-told g =
+      ap headerWidth (sym (form-told f (seen .header) (seen .field) (seen .number) frame (w .registers) g)) ∙ width-is (omega arith)
+
+  data-ends : f ≡ 5 → endOf f long (bytes seen) ≡ headerWidth long + 8 * bytes seen → Ends reading line f long run frame (fieldRead seen)
   unfolding fieldRead
   data-ends i end = read (w .registers)
     where
-      next : f + 1 ≡ 5
+      next : f + 1 ≡ 6
       next = omega arith
 
-      read : Registers f (seen .header) (seen .field) (seen .number) frame → Ends reading line f run frame (fieldRead seen)
+      read : Registers f (seen .header) (seen .field) (seen .number) frame → Ends reading line f long run frame (fieldRead seen)
       read (in-header g e l) = absurd (omega arith)
       read (in-data k g fine e l) =
           record {
-            leads = leads right (nothing-here (λ d. omega arith) (λ d. omega arith));
-            at-is = at ∙ next-start f (bytes seen);
+            leads = leads right (nothing-here (λ d. omega arith) (λ d. omega arith) (λ d. omega arith));
+            at-is = at ∙ next-start long (bytes seen) f;
+            formed = λ x. w .formed (omega arith);
             registers =
                 subst (λ (k : ℕ). Registers k (seen .header) (seen .number) 0 frame) (sym next)
-                (field-put (seen .header) (seen .number) k frame (at ∙ end) fine e l);
+                (field-put (seen .header) (seen .number) k frame (omega (arith, at, end, width-told (omega arith))) fine e l);
             told = told-of;
             fresh = w .fresh;
             reached = w .reached;
@@ -233,92 +347,134 @@ module _ (reading : Reading) (line : List ℕ) (f : ℕ) (seen : Seen) (run : Ru
       read (in-crc k g put e l) = absurd (omega arith)
       read (behind m g put e l) = absurd (omega arith)
 
-  crc-ends : f ≡ 5 → endOf f (bytes seen) ≡ 34 + 8 * bytes seen → Ends reading line f run frame (crcRead seen)
-  unfolding crcRead crcStart
+  crc-ends : f ≡ 6 → endOf f long (bytes seen) ≡ headerWidth long + 8 * bytes seen + 15 → Ends reading line f long run frame (crcRead seen)
+  unfolding crcRead
   crc-ends i end = read (w .registers)
     where
-      read : Registers f (seen .header) (seen .field) (seen .number) frame → Ends reading line f run frame (crcRead seen)
+      read : Registers f (seen .header) (seen .field) (seen .number) frame → Ends reading line f long run frame (crcRead seen)
       read (in-header g e l) = absurd (omega arith)
       read (in-data k g fine e l) = absurd (omega arith)
       read (behind m g put e l) = absurd (omega arith)
       read (in-crc k g put e l) = go (crcRight frame) refl
         where
-          there : crcRight frame ≡ eqb (seen .number) (crc (bits 19 (seen .header) ++ bits (8 * dataBytes (bytes seen)) (seen .field)))
+          there : crcRight frame ≡ eqb (seen .number) (crc (bits 39 (seen .header) ++ bits (8 * dataBytes (bytes seen)) (seen .field)))
           there = crc-there (seen .header) (seen .field) (seen .number) k frame (put .fine) e l
 
-          last : length frame ≡ 19 + 8 * dlcIn frame + 15
-          last = omega (arith, at, end, dlc-known f (seen .header) (seen .field) (seen .number) frame (w .registers) (omega arith))
+          start : crcStart frame ≡ headerWidth long + 8 * bytes seen
+          start =
+              crc-known f long (bytes seen) frame (λ g. w .formed g .form-is)
+              (dlc-known f (seen .header) (seen .field) (seen .number) frame (w .registers)) (omega arith)
+
+          last : length frame ≡ crcStart frame + 15
+          last = omega (arith, at, end, start)
+
+          late : 14 < length frame
+          late = omega (arith, last, start-least frame .0)
 
           fifteen : k ≡ 15
-          fifteen = omega (arith, at, end, crc-length (seen .header) (seen .field) (seen .number) k frame e)
+          fifteen = omega (arith, at, end, width-told (omega arith), crc-length (seen .header) (seen .field) (seen .number) k frame e)
 
-          go : (t : Bool) → crcRight frame ≡ t → Ends reading line f run frame (crcRead seen)
+          go : (t : Bool) → crcRight frame ≡ t → Ends reading line f long run frame (crcRead seen)
           go true d = rw (sym there ∙ d) (record {
-            leads = leads right (nothing-shown reading frame (seen .place - 1) (λ x. absurd (omega (arith, last))) (λ x. d) (λ x. absurd (omega (arith, last))));
-            at-is = at ∙ next-start f (bytes seen);
+            leads =
+                leads right
+                (nothing-shown reading run frame (seen .place - 1) (λ x. absurd (omega (arith, late)))
+                (λ x. absurd (omega (arith, last, start-least frame .1))) (λ x. d) (λ x. absurd (omega (arith, last))));
+            at-is = at ∙ next-start long (bytes seen) f;
+            formed = λ x. w .formed (omega arith);
             registers = behind (bits k (seen .number)) (omega arith) put e (rw fifteen at l);
             told = told-of;
             fresh = w .fresh;
             reached = w .reached;
             behind = w .behind;
           })
-          go false d = rw (sym there ∙ d) (leads _ (crc-refused reading frame (seen .place - 1) last d))
+          go false d = rw (sym there ∙ d) (seen .place - 1, leads _ (crc-refused reading run frame (seen .place - 1) late last d))
 
-  part-ends : Ends reading line f run frame (partEnd f seen)
-  unfolding partEnd
-  part-ends = go (stage f (bytes seen) h)
+  part-ends : Ends reading line f (longBehind f long seen) run frame (partEnd f seen)
+  unfolding partEnd headerEnd
+  part-ends = go (stage long (bytes seen) f h)
     where
-      go : Stage f (bytes seen) → Ends reading line f run frame (partEnd f seen)
-      go (before-dlc g e) = other-ends (λ d. omega arith) (λ d. omega arith) (λ d. omega arith)
-      go (dlc g e) = rw (eq-eqb f 3 g) (header-ends g e)
-      go (data-bits g s e) = rw (ne-eqb f 3 (λ d. omega arith), eq-eqb f 4 g) (data-ends g e)
-      go (crc-bits g s e) = rw (ne-eqb f 3 (λ d. omega arith), ne-eqb f 4 (λ d. omega arith), eq-eqb f 5 g) (crc-ends g e)
-      go (ack-slot i e) = other-ends (λ d. omega arith) (λ d. omega arith) (λ d. omega arith)
-      go (ending g o e) = other-ends (λ d. omega arith) (λ d. omega arith) (λ d. omega arith)
+      early : f < 4 → (f ≡ 1 → ⊥) → Ends reading line f (longBehind f long seen) run frame (partEnd f seen)
+      early g not-ide =
+          rw (ne-eqb f 1 not-ide, lt-ltb f 4 g) (other-ends not-ide (λ d. omega arith) (λ d. omega arith) (λ d. omega arith))
+
+      late : 6 < f → Ends reading line f (longBehind f long seen) run frame (partEnd f seen)
+      late g =
+          rw (
+            ne-eqb f 1 (λ d. omega arith),
+            le-ltb f 4 (omega arith),
+            ne-eqb f 4 (λ d. omega arith),
+            ne-eqb f 5 (λ d. omega arith),
+            ne-eqb f 6 (λ d. omega arith),
+          ) (other-ends (λ d. omega arith) (λ d. omega arith) (λ d. omega arith) (λ d. omega arith))
+
+      go : Stage long (bytes seen) f → Ends reading line f (longBehind f long seen) run frame (partEnd f seen)
+      go (first-bit g e) = early (omega arith) (λ d. omega arith)
+      go (ide g e) = rw (eq-eqb f 1 g, lt-ltb f 4 (omega arith)) (form-ends g e)
+      go (before-dlc g i e) = early i (λ d. omega arith)
+      go (dlc g e) = rw (ne-eqb f 1 (λ d. omega arith), le-ltb f 4 (omega arith), eq-eqb f 4 g) (header-ends g e)
+      go (data-bits g e) =
+          rw (ne-eqb f 1 (λ d. omega arith), le-ltb f 4 (omega arith), ne-eqb f 4 (λ d. omega arith), eq-eqb f 5 g) (data-ends g e)
+      go (crc-bits g e) =
+          rw (
+            ne-eqb f 1 (λ d. omega arith),
+            le-ltb f 4 (omega arith),
+            ne-eqb f 4 (λ d. omega arith),
+            ne-eqb f 5 (λ d. omega arith),
+            eq-eqb f 6 g,
+          ) (crc-ends g e)
+      go (ack-slot i e) = late (omega arith)
+      go (ending g o e) = late g
 
 -- where reading stops in the row
-pub field-ends : (reading : Reading) (line : List ℕ) (f : ℕ) (seen : Seen) (run : Run) (left : ℕ) (frame : List ℕ) → f < 9 → Within reading line f seen run left frame
-    → Told seen run frame → seen .stop ≤ seen .place → Ends reading line f run frame (fieldEnd f seen)
+pub field-ends : (reading : Reading) (line : List ℕ) (f : ℕ) (long : Bool) (seen : Seen) (run : Run) (left : ℕ) (frame : List ℕ) → f < 10
+    → Within reading line f long seen run left frame → Told seen run frame → seen .stop ≤ seen .place
+    → Ends reading line f (longBehind f long seen) run frame (fieldEnd f seen)
 unfolding fieldEnd
-field-ends reading line f seen run left frame h w told over = go (ltb (seen .place) (seen .end)) refl
+field-ends reading line f long seen run left frame h w told over = go (ltb (seen .place) (seen .end)) refl
   where
     go : (t : Bool) → ltb (seen .place) (seen .end) ≡ t
-        → Ends reading line f run frame (cond t (Refused (LineLength (seen .place))) (partEnd f seen))
+        → Ends reading line f (longBehind f long seen) run frame (cond t (Refused (LineLength (seen .place))) (partEnd f seen))
     go true d =
         let before = ltb-true (seen .place) (seen .end) d in
-        missing reading line f seen run left frame h w (omega (arith, w .end-is))
+        missing reading line f long seen run left frame h w (omega (arith, w .end-is))
         (least-not (seen .end) (length line) (seen .place) (rw (w .stop-is) at over) before)
     go false d =
-        part-ends reading line f seen run left frame h w told (omega (arith, w .end-is, ltb-false (seen .place) (seen .end) d))
+        part-ends reading line f long seen run left frame h w told (omega (arith, w .end-is, ltb-false (seen .place) (seen .end) d))
 
 -- ---- behind the last row
 
-module _ (reading : Reading) (line : List ℕ) (seen : Seen) (run : Run) (frame : List ℕ) (b : Between reading line 9 seen run frame) where
+module _ (reading : Reading) (line : List ℕ) (long : Bool) (seen : Seen) (run : Run) (frame : List ℕ)
+    (b : Between reading line 10 long seen run frame) where
   known : dlcIn frame ≡ bytes seen
-  known = dlc-known 9 (seen .header) (seen .field) (seen .number) frame (b .registers) (lit< tt)
+  known = dlc-known 10 (seen .header) (seen .field) (seen .number) frame (b .registers) (lit< tt)
 
   ended : complete frame ≡ true
-  unfolding complete crcStart
-  ended = eq-eqb (length frame) (19 + 8 * dlcIn frame + 25) (omega (arith, b .at-is, frame-end (bytes seen), known))
+  unfolding complete
+  ended =
+      let start = crc-known 10 long (bytes seen) frame (λ g. b .formed g .form-is) (λ g. known) (lit< tt) in
+      eq-eqb (length frame) (crcStart frame + 25) (omega (arith, b .at-is, frame-end long (bytes seen), start))
 
-  pub line-longer : seen .place < length line → scanned reading line ≡ stopped (LineLength (seen .place))
+  pub line-longer : seen .place < length line → Stopped (scanned reading line) (LineLength (seen .place))
   unfolding scan
-  line-longer h =
-      b .leads ∙ ap (scan reading run frame (seen .place)) (drop-cons line (seen .place) 0 h)
-      ∙ rw (bit-too-many reading run frame (seen .place) (getD line (seen .place) 0) ended) refl
+  line-longer h = (
+    seen .place,
+    b .leads ∙ ap (scan reading run frame (seen .place)) (drop-cons line (seen .place) 0 h)
+        ∙ rw (bit-too-many reading run frame (seen .place) (getD line (seen .place) 0) ended) refl,
+  )
 
   pub line-read : length line ≤ seen .place → Reads (Next seen) (scanned reading line)
   unfolding scan
   line-read h =
       (frame, b .leads ∙ ap (scan reading run frame (seen .place)) (drop-of-length-le line h) ∙ rw ended refl, holds (b .registers))
     where
-      holds : Registers 9 (seen .header) (seen .field) (seen .number) frame → Holds seen frame
+      holds : Registers 10 (seen .header) (seen .field) (seen .number) frame → Holds seen frame
       holds (in-header g e l) = absurd (omega arith)
       holds (in-data k g fine e l) = absurd (omega arith)
       holds (in-crc k g put e l) = absurd (omega arith)
       holds (behind m g put e l) =
           record {
-            identifier-is = sym (ap identifierIn e ∙ identifier-there (seen .header) _);
+            identifier-is = sym (ap identifierIn e ∙ identifier-there (seen .header) _ (put .fine .shaped));
             dlc-is = sym known;
-            data-is = sym (ap dataIn e ∙ data-there (seen .header) (seen .field) _ (put .within));
+            data-is = sym (ap dataIn e ∙ data-there (seen .header) (seen .field) _ (put .fine .shaped) (put .within));
           }

@@ -9,5 +9,7 @@ pub mod Registers
 pub mod LineBit
 pub mod Passing
 pub mod Keeping
-pub mod FieldEnds
+pub mod NextBit
 pub mod Widths
+pub mod FieldEnds
+pub mod Examples

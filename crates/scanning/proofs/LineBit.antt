@@ -69,22 +69,22 @@ passed-inside raw line seen next h e = rw (← e) at (inside raw line seen h)
 
 -- the next bit of row f, behind the CRC
 module _ (line : List ℕ) (f most : ℕ) (seen : Seen) where
-  pub ending-next : 5 < f → endingBit f most line seen ≡ lineBit f most line seen
+  pub ending-next : 6 < f → endingBit f most line seen ≡ lineBit f most line seen
   unfolding lineBit
-  ending-next h = rw (lt-ltb 5 f h) refl
+  ending-next h = rw (lt-ltb 6 f h) refl
 
-  pub slot-next : f ≡ 7 → slotBit most line seen ≡ endingBit f most line seen
+  pub slot-next : f ≡ 8 → slotBit most line seen ≡ endingBit f most line seen
   unfolding endingBit
-  slot-next e = rw (eq-eqb f 7 e) refl
+  slot-next e = rw (eq-eqb f 8 e) refl
 
-  module _ (not-slot : f ≡ 7 → ⊥) where
-    pub delimiter-next : f ≡ 6 → delimiterBit line seen ≡ endingBit f most line seen
+  module _ (not-slot : f ≡ 8 → ⊥) where
+    pub delimiter-next : f ≡ 7 → delimiterBit line seen ≡ endingBit f most line seen
     unfolding endingBit
-    delimiter-next e = rw (ne-eqb f 7 not-slot, eq-eqb f 6 e) refl
+    delimiter-next e = rw (ne-eqb f 8 not-slot, eq-eqb f 7 e) refl
 
-    pub one-next : (f ≡ 6 → ⊥) → oneBit line seen ≡ endingBit f most line seen
+    pub one-next : (f ≡ 7 → ⊥) → oneBit line seen ≡ endingBit f most line seen
     unfolding endingBit
-    one-next n = rw (ne-eqb f 7 not-slot, ne-eqb f 6 n) refl
+    one-next n = rw (ne-eqb f 8 not-slot, ne-eqb f 7 n) refl
 
 -- of a step behind which this bit is read
 then-next : (s : Step) (bit : Seen → Step) (next : Seen) → Next next ≡ s → bit next ≡ andThen s bit
@@ -102,10 +102,10 @@ pub delimiter-refused : (line : List ℕ) (seen : Seen) (refusal : Refusal) → 
 unfolding delimiterBit
 delimiter-refused line seen refusal e = then-refused _ (oneBit line) refusal e
 
-module _ (line : List ℕ) (f most : ℕ) (seen : Seen) (h : f ≤ 5) where
+module _ (line : List ℕ) (f most : ℕ) (seen : Seen) (h : f ≤ 6) where
   field-is : andThen (passed (1 + seen .raw % 2) line seen) (fieldBit most line) ≡ lineBit f most line seen
   unfolding lineBit
-  field-is = rw (le-ltb 5 f h) refl
+  field-is = rw (le-ltb 6 f h) refl
 
   pub field-next : (next : Seen) → Next next ≡ passed (1 + seen .raw % 2) line seen → fieldBit most line next ≡ lineBit f most line seen
   field-next next e = then-next _ (fieldBit most line) next e ∙ field-is

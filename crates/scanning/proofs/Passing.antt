@@ -18,7 +18,7 @@ use Rattle.bits.specs.declared.Run.{Run}
 use Rattle.bits.specs.Stuffing.{counted}
 use Rattle.refusals.specs.declared.Refusal.the-variants.{LineByte, StuffBit, LineLength}
 use Rattle.scanning.specs.Scan.{complete, crcStart, stuffDue, Verdict, right, verdict, runWith, frameWith, Scanned, stopped, onward, scan, scanned}
-use Rattle.scanning.specs.Steps.{bitAt, behindStuffBit, dueIn, stuffBit, passed}
+use Rattle.scanning.specs.Steps.{bitAt, behindStuffBit, dueIn, stuffBit, passed, Stopped}
 use Rattle.scanning.specs.declared.Reading.{Reading}
 use Rattle.scanning.specs.declared.seen.Seen.{Seen}
 use Rattle.scanning.specs.declared.seen.Step.{Step}
@@ -41,29 +41,29 @@ pub record Stuffed (reading : Reading) (line : List ℕ) (seen : Seen) (run : Ru
 -- what is to hold of the run and of what is seen behind it
 abbrev pub Passes : Reading → List ℕ → (Run → Seen → Type 0) → Step → Type 0
 Passes reading line P (Next next) = (run : Run) × P run next
-Passes reading line P (Refused refusal) = scanned reading line ≡ stopped refusal
+Passes reading line P (Refused refusal) = Stopped (scanned reading line) refusal
 
 module _ (reading : Reading) (line : List ℕ) (seen : Seen) (run : Run) (frame : List ℕ)
     (leads : scanned reading line ≡ rest reading line seen run frame) (begun : complete frame ≡ false) where
   abbrev b : ℕ
   b = bitAt line seen
 
-  ends : (r : Run) (place : ℕ) → scan reading r frame place [] ≡ stopped (LineLength place)
+  ends : (r : Run) (place : ℕ) → scan reading r frame place [] ≡ stopped place (LineLength place)
   unfolding scan
   ends r place = rw begun refl
 
-  pub missing : length line ≤ seen .place → scanned reading line ≡ stopped (LineLength (seen .place))
-  missing e = leads ∙ ap (scan reading run frame (seen .place)) (drop-of-length-le line e) ∙ ends run (seen .place)
+  pub missing : length line ≤ seen .place → Stopped (scanned reading line) (LineLength (seen .place))
+  missing e = (seen .place, leads ∙ ap (scan reading run frame (seen .place)) (drop-of-length-le line e) ∙ ends run (seen .place))
 
   module _ (inside : seen .place < length line) where
     pub went : (v : Verdict) → verdict reading run frame (seen .place) b ≡ v
-        → scanned reading line ≡ onward v (scan reading (runWith run b) (frameWith run frame b) (seen .place + 1) (drop (seen .place + 1) line))
+        → scanned reading line ≡ onward (seen .place) v (scan reading (runWith run b) (frameWith run frame b) (seen .place + 1) (drop (seen .place + 1) line))
     unfolding scan
     went v d =
         let here : drop (seen .place) line ≡ b ∷ drop (seen .place + 1) line =
         drop-cons line (seen .place) 0 inside ∙ ap (λ (k : ℕ). b ∷ drop k line) (sym (add-one (seen .place))) in
         leads ∙ ap (scan reading run frame (seen .place)) here
-        ∙ ap (λ (u : Verdict). onward u (scan reading (runWith run b) (frameWith run frame b) (seen .place + 1) (drop (seen .place + 1) line))) d
+        ∙ ap (λ (u : Verdict). onward (seen .place) u (scan reading (runWith run b) (frameWith run frame b) (seen .place + 1) (drop (seen .place + 1) line))) d
 
     -- the raw bits tell the run, and a stuff bit may still come
     module _ (tells : Tells (seen .raw) run) (within : length frame ≤ crcStart frame + 15) where
@@ -105,16 +105,18 @@ module _ (reading : Reading) (line : List ℕ) (seen : Seen) (run : Run) (frame 
 
               follows : b ≤ 1 → (b ≡ run .bit → ⊥) → (t : Bool) → leb (length line) (seen .place + 1) ≡ t
                   → Passes reading line P (cond t (Refused (LineLength (seen .place + 1))) (Next (behindStuffBit raw line seen)))
-              follows bit other true d =
-                  onto bit other ∙ ap (scan reading (runWith run b) frame (seen .place + 1)) (drop-of-length-le line (leb-true _ _ d))
-                  ∙ ends (runWith run b) (seen .place + 1)
+              follows bit other true d = (
+                seen .place + 1,
+                onto bit other ∙ ap (scan reading (runWith run b) frame (seen .place + 1)) (drop-of-length-le line (leb-true _ _ d))
+                    ∙ ends (runWith run b) (seen .place + 1),
+              )
               follows bit other false d = (runWith run b, behind _ (behind-it bit other (leb-false _ _ d)))
 
               sixth : b ≤ 1 → (t : Bool) → eqb b (seen .raw % 2) ≡ t
                   → Passes reading line P
                   (cond t (Refused (StuffBit (seen .place)))
                   (cond (leb (length line) (seen .place + 1)) (Refused (LineLength (seen .place + 1))) (Next (behindStuffBit raw line seen))))
-              sixth bit true d = went _ (sixth-bit reading run frame (seen .place) b begun bit due (eqb-true _ _ d ∙ sym last))
+              sixth bit true d = (seen .place, went _ (sixth-bit reading run frame (seen .place) b begun bit due (eqb-true _ _ d ∙ sym last)))
               sixth bit false d = follows bit (λ e. eqb-false _ _ d (e ∙ last)) (leb (length line) (seen .place + 1)) refl
 
               byte : (t : Bool) → ltb 1 b ≡ t
@@ -122,7 +124,7 @@ module _ (reading : Reading) (line : List ℕ) (seen : Seen) (run : Run) (frame 
                   (cond t (Refused (LineByte (seen .place)))
                   (cond (eqb b (seen .raw % 2)) (Refused (StuffBit (seen .place)))
                   (cond (leb (length line) (seen .place + 1)) (Refused (LineLength (seen .place + 1))) (Next (behindStuffBit raw line seen)))))
-              byte true d = went _ (byte-above-1 reading run frame (seen .place) b begun (ltb-true _ _ d))
+              byte true d = (seen .place, went _ (byte-above-1 reading run frame (seen .place) b begun (ltb-true _ _ d)))
               byte false d = sixth (ltb-false _ _ d) (eqb b (seen .raw % 2)) refl
 
       -- ---- or none

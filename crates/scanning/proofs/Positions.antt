@@ -1,14 +1,15 @@
 -- Where the rows stand that the code reads a frame by. Assumes nothing.
 --     widthAt, before   how many bits field f has, and how many stand before it
---     startOf, endOf, end-is    the positions of field f's first bit and of the one behind its last, where the frame has n data bytes
+--     startOf, endOf, end-is    the positions of field f's first bit and of the one behind its last, in a form and with n data bytes
 --     next-start        a field starts where the one before it ends
---     end-some, header-end, data-end, crc-end, slot-end, end-within    how far fields reach
---     first-start, data-start, data-from, ending-from, slot-from, last-from, frame-end    and from where on
+--     end-some, ide-end, header-end, data-end, crc-end, slot-end, end-within    how far fields reach
+--     first-start, form-start, data-start, form-from, data-from, ending-from, slot-from, last-from, frame-end    and from where on
 --     Stage, stage      which part of the frame a field is in
+--     Known, how-known    what is known where the frame reaches into a field: the form behind IDE, the DLC behind the header
 --     early-or-known    where the DLC is not known yet, nothing hangs on it
 --     to-the-crc, behind-the-crc    the frame's bits do not reach behind the CRC, or they do
 --     not-complete      in a field the frame is not complete
-use mathlib.Core.Path.{_≡_, refl, sym, ap, _∙_, subst}
+use mathlib.Core.Path.{_≡_, refl, sym, ap, ap₂, _∙_, subst}
 use mathlib.Core.Bool.{Bool, true, false}
 use mathlib.Core.List.{List, [], _∷_}
 use mathlib.Core.Logic.{_⊎_, inl, inr}
@@ -19,12 +20,13 @@ use native.Mathlib.Omega.{arith}
 use lib.Dec.{eqb, ltb}
 use lib.ListN.{length, getD}
 use borrow.Author.Tests.{ne-eqb, ltb-true, ltb-false, eqb-true, eqb-false}
-use Rattle.scanning.specs.Scan.{dlcIn, crcStart, complete}
+use Rattle.scanning.specs.Scan.{longIn, headerWidth, dataStart, dlcIn, crcStart, complete}
 use Rattle.scanning.specs.Steps.{widthsOf}
+use Rattle.scanning.proofs.Partial.{width-least}
 
 -- how many bits field f has
-abbrev pub widthAt : ℕ → ℕ → ℕ
-widthAt f n = getD (widthsOf n) f 0
+abbrev pub widthAt : ℕ → Bool → ℕ → ℕ
+widthAt f long n = getD (widthsOf long n) f 0
 
 -- how many bits stand before the field at f
 abbrev pub before : ℕ → List ℕ → ℕ
@@ -43,181 +45,236 @@ before-more zero k l = omega arith
 before-more (suc f) k [] = omega arith
 before-more (suc f) k (x ∷ l) = rw (suc-add f k) (omega (arith, before-more f k l))
 
-unfoldable pub startOf : ℕ → ℕ → ℕ
-startOf f n = before f (widthsOf n)
+unfoldable pub startOf : ℕ → Bool → ℕ → ℕ
+startOf f long n = before f (widthsOf long n)
 
-pub endOf : ℕ → ℕ → ℕ
-endOf f n = startOf (suc f) n
+pub endOf : ℕ → Bool → ℕ → ℕ
+endOf f long n = startOf (suc f) long n
 
-pub end-is : (f n : ℕ) → endOf f n ≡ startOf f n + widthAt f n
-unfolding startOf endOf
-end-is f n = before-suc f (widthsOf n)
-
-pub next-start : (f n : ℕ) → endOf f n ≡ startOf (f + 1) n
-unfolding endOf
-next-start f n = ap (λ (k : ℕ). startOf k n) (sym (add-one f))
-
-later : (f g n : ℕ) → f ≤ g → startOf f n ≤ startOf g n
+pub first-start : (long : Bool) (n : ℕ) → startOf 0 long n ≡ 0
 unfolding startOf
-later f g n h =
-    let sum : f + (g - f) ≡ g = omega arith in
-    subst (λ (k : ℕ). before f (widthsOf n) ≤ before k (widthsOf n)) sum (before-more f (g - f) (widthsOf n))
+first-start long n = refl
 
--- where the parts start
-pub first-start : (n : ℕ) → startOf 0 n ≡ 0
-unfolding startOf
-first-start n = refl
+-- in a form, with n data bytes
+module _ (long : Bool) (n : ℕ) where
+  pub end-is : (f : ℕ) → endOf f long n ≡ startOf f long n + widthAt f long n
+  unfolding startOf endOf
+  end-is f = before-suc f (widthsOf long n)
 
-identifier-start : (n : ℕ) → startOf 1 n ≡ 1
-unfolding startOf widthsOf
-identifier-start n = refl
+  pub next-start : (f : ℕ) → endOf f long n ≡ startOf (f + 1) long n
+  unfolding endOf
+  next-start f = ap (λ (k : ℕ). startOf k long n) (sym (add-one f))
 
-dlc-start : (n : ℕ) → startOf 3 n ≡ 15
-unfolding startOf widthsOf
-dlc-start n = refl
+  later : (f g : ℕ) → f ≤ g → startOf f long n ≤ startOf g long n
+  unfolding startOf
+  later f g h =
+      let sum : f + (g - f) ≡ g = omega arith in
+      subst (λ (k : ℕ). before f (widthsOf long n) ≤ before k (widthsOf long n)) sum (before-more f (g - f) (widthsOf long n))
 
-pub data-start : (n : ℕ) → startOf 4 n ≡ 19
-unfolding startOf widthsOf
-data-start n = refl
+  -- where the parts start
+  identifier-start : startOf 1 long n ≡ 1
+  unfolding startOf widthsOf
+  identifier-start = refl
 
-crc-start : (n : ℕ) → startOf 5 n ≡ 19 + 8 * n
-unfolding startOf widthsOf
-crc-start n = omega arith
+  pub form-start : startOf 2 long n ≡ 14
+  unfolding startOf widthsOf
+  form-start = refl
 
-ending-start : (n : ℕ) → startOf 6 n ≡ 34 + 8 * n
-unfolding startOf widthsOf
-ending-start n = omega arith
+dlc-start : (long : Bool) (n : ℕ) → startOf 4 long n + 4 ≡ headerWidth long
+unfolding startOf widthsOf headerWidth
+dlc-start true n = refl
+dlc-start false n = refl
 
-slot-start : (n : ℕ) → startOf 7 n ≡ 35 + 8 * n
-unfolding startOf widthsOf
-slot-start n = omega arith
+pub data-start : (long : Bool) (n : ℕ) → startOf 5 long n ≡ headerWidth long
+unfolding startOf widthsOf headerWidth
+data-start true n = refl
+data-start false n = refl
 
-last-start : (n : ℕ) → startOf 8 n ≡ 36 + 8 * n
-unfolding startOf widthsOf
-last-start n = omega arith
+crc-start : (long : Bool) (n : ℕ) → startOf 6 long n ≡ headerWidth long + 8 * n
+unfolding startOf widthsOf headerWidth
+crc-start true n = omega arith
+crc-start false n = omega arith
 
-pub frame-end : (n : ℕ) → startOf 9 n ≡ 44 + 8 * n
-unfolding startOf widthsOf
-frame-end n = omega arith
+ending-start : (long : Bool) (n : ℕ) → startOf 7 long n ≡ headerWidth long + 8 * n + 15
+unfolding startOf widthsOf headerWidth
+ending-start true n = omega arith
+ending-start false n = omega arith
 
--- where fields start and end
-pub data-from : (f n : ℕ) → 3 < f → 19 ≤ startOf f n
-data-from f n h = omega (arith, later 4 f n h, data-start n)
+slot-start : (long : Bool) (n : ℕ) → startOf 8 long n ≡ headerWidth long + 8 * n + 16
+unfolding startOf widthsOf headerWidth
+slot-start true n = omega arith
+slot-start false n = omega arith
 
-pub slot-from : (f n : ℕ) → 6 < f → 35 + 8 * n ≤ startOf f n
-slot-from f n h = omega (arith, later 7 f n h, slot-start n)
+last-start : (long : Bool) (n : ℕ) → startOf 9 long n ≡ headerWidth long + 8 * n + 17
+unfolding startOf widthsOf headerWidth
+last-start true n = omega arith
+last-start false n = omega arith
 
-pub last-from : (f n : ℕ) → 7 < f → 36 + 8 * n ≤ startOf f n
-last-from f n h = omega (arith, later 8 f n h, last-start n)
+pub frame-end : (long : Bool) (n : ℕ) → startOf 10 long n ≡ headerWidth long + 8 * n + 25
+unfolding startOf widthsOf headerWidth
+frame-end true n = omega arith
+frame-end false n = omega arith
 
-pub ending-from : (f n : ℕ) → 5 < f → 34 + 8 * n ≤ startOf f n
-ending-from f n h = omega (arith, later 6 f n h, ending-start n)
+-- where field f starts and ends
+module _ (long : Bool) (n f : ℕ) where
+  abbrev w : ℕ
+  w = headerWidth long
 
-pub end-some : (f n : ℕ) → 0 < endOf f n
+  pub form-from : 1 < f → 14 ≤ startOf f long n
+  form-from h = omega (arith, later long n 2 f h, form-start long n)
+
+  pub data-from : 4 < f → w ≤ startOf f long n
+  data-from h = omega (arith, later long n 5 f h, data-start long n)
+
+  pub ending-from : 6 < f → w + 8 * n + 15 ≤ startOf f long n
+  ending-from h = omega (arith, later long n 7 f h, ending-start long n)
+
+  pub slot-from : 7 < f → w + 8 * n + 16 ≤ startOf f long n
+  slot-from h = omega (arith, later long n 8 f h, slot-start long n)
+
+  pub last-from : 8 < f → w + 8 * n + 17 ≤ startOf f long n
+  last-from h = omega (arith, later long n 9 f h, last-start long n)
+
+  pub end-some : 0 < endOf f long n
+  unfolding endOf
+  end-some = omega (arith, later long n 1 (suc f) (omega arith), identifier-start long n)
+
+  pub ide-end : f ≤ 1 → endOf f long n ≤ 14
+  unfolding endOf
+  ide-end h = omega (arith, later long n (suc f) 2 (omega arith), form-start long n)
+
+  pub header-end : f ≤ 4 → endOf f long n ≤ w
+  unfolding endOf
+  header-end h = omega (arith, later long n (suc f) 5 (omega arith), data-start long n)
+
+  pub data-end : f ≤ 5 → endOf f long n ≤ w + 8 * n
+  unfolding endOf
+  data-end h = omega (arith, later long n (suc f) 6 (omega arith), crc-start long n)
+
+  pub crc-end : f ≤ 6 → endOf f long n ≤ w + 8 * n + 15
+  unfolding endOf
+  crc-end h = omega (arith, later long n (suc f) 7 (omega arith), ending-start long n)
+
+  delimiter-end : f ≤ 7 → endOf f long n ≤ w + 8 * n + 16
+  unfolding endOf
+  delimiter-end h = omega (arith, later long n (suc f) 8 (omega arith), slot-start long n)
+
+  pub slot-end : f ≤ 8 → endOf f long n ≤ w + 8 * n + 17
+  unfolding endOf
+  slot-end h = omega (arith, later long n (suc f) 9 (omega arith), last-start long n)
+
+  pub end-within : f < 10 → endOf f long n ≤ w + 8 * n + 25
+  unfolding endOf
+  end-within h = omega (arith, later long n (suc f) 10 h, frame-end long n)
+
+-- start of frame, the bits from there to IDE, the other header fields but the DLC, the DLC, data, CRC, the ACK slot, and the other bits
+-- that are never stuffed
+pub data Stage (long : Bool) (n f : ℕ) : Type 0 where
+  first-bit : f ≡ 0 → endOf f long n ≡ 1 → Stage long n f
+  ide : f ≡ 1 → endOf f long n ≡ 14 → Stage long n f
+  before-dlc : 1 < f → f < 4 → endOf f long n + 4 ≤ headerWidth long → Stage long n f
+  dlc : f ≡ 4 → endOf f long n ≡ headerWidth long → Stage long n f
+  data-bits : f ≡ 5 → endOf f long n ≡ headerWidth long + 8 * n → Stage long n f
+  crc-bits : f ≡ 6 → endOf f long n ≡ headerWidth long + 8 * n + 15 → Stage long n f
+  ack-slot : f ≡ 8 → endOf f long n ≡ headerWidth long + 8 * n + 17 → Stage long n f
+  ending : 6 < f → headerWidth long + 8 * n + 15 < endOf f long n → (endOf f long n ≡ headerWidth long + 8 * n + 17 → ⊥) → Stage long n f
+
+pub stage : (long : Bool) (n f : ℕ) → f < 10 → Stage long n f
 unfolding endOf
-end-some f n = omega (arith, later 1 (suc f) n (omega arith), identifier-start n)
-
-pub header-end : (f n : ℕ) → f ≤ 3 → endOf f n ≤ 19
-unfolding endOf
-header-end f n h = omega (arith, later (suc f) 4 n (omega arith), data-start n)
-
-pub data-end : (f n : ℕ) → f ≤ 4 → endOf f n ≤ 19 + 8 * n
-unfolding endOf
-data-end f n h = omega (arith, later (suc f) 5 n (omega arith), crc-start n)
-
-pub crc-end : (f n : ℕ) → f ≤ 5 → endOf f n ≤ 34 + 8 * n
-unfolding endOf
-crc-end f n h = omega (arith, later (suc f) 6 n (omega arith), ending-start n)
-
-delimiter-end : (f n : ℕ) → f ≤ 6 → endOf f n ≤ 35 + 8 * n
-unfolding endOf
-delimiter-end f n h = omega (arith, later (suc f) 7 n (omega arith), slot-start n)
-
-pub slot-end : (f n : ℕ) → f ≤ 7 → endOf f n ≤ 36 + 8 * n
-unfolding endOf
-slot-end f n h = omega (arith, later (suc f) 8 n (omega arith), last-start n)
-
-pub end-within : (f n : ℕ) → f < 9 → endOf f n ≤ 44 + 8 * n
-unfolding endOf
-end-within f n h = omega (arith, later (suc f) 9 n h, frame-end n)
-
--- header fields but the DLC, the DLC, data, CRC, the ACK slot, and the other bits that are never stuffed
-pub data Stage (f n : ℕ) : Type 0 where
-  before-dlc : f < 3 → endOf f n ≤ 15 → Stage f n
-  dlc : f ≡ 3 → endOf f n ≡ 19 → Stage f n
-  data-bits : f ≡ 4 → startOf f n ≡ 19 → endOf f n ≡ 19 + 8 * n → Stage f n
-  crc-bits : f ≡ 5 → startOf f n ≡ 19 + 8 * n → endOf f n ≡ 34 + 8 * n → Stage f n
-  ack-slot : f ≡ 7 → endOf f n ≡ 36 + 8 * n → Stage f n
-  ending : 5 < f → 34 + 8 * n < endOf f n → (endOf f n ≡ 36 + 8 * n → ⊥) → Stage f n
-
-pub stage : (f n : ℕ) → f < 9 → Stage f n
-unfolding endOf
-stage f n h = first (ltb f 3) refl
+stage long n f h = first (eqb f 0) refl
   where
-    starts : (k : ℕ) → f ≡ k → startOf f n ≡ startOf k n
-    starts k i = ap (λ (j : ℕ). startOf j n) i
-
-    ends : (k : ℕ) → f ≡ k → startOf (suc f) n ≡ startOf (suc k) n
-    ends k i = ap (λ (j : ℕ). startOf (suc j) n) i
+    ends : (k : ℕ) → f ≡ k → startOf (suc f) long n ≡ startOf (suc k) long n
+    ends k i = ap (λ (j : ℕ). startOf (suc j) long n) i
 
     -- the CRC delimiter, or what stands behind the ACK slot
-    sixth : (t : Bool) → ltb f 7 ≡ t → 5 < f → (f ≡ 7 → ⊥) → Stage f n
-    sixth true e g not-slot =
-        let i = ltb-true f 7 e in
-        let end : startOf (suc f) n ≡ 35 + 8 * n = ends 6 (omega arith) ∙ slot-start n in
+    eighth : (t : Bool) → ltb f 8 ≡ t → 6 < f → (f ≡ 8 → ⊥) → Stage long n f
+    eighth true e g not-slot =
+        let i = ltb-true f 8 e in
+        let end : startOf (suc f) long n ≡ headerWidth long + 8 * n + 16 = ends 7 (omega arith) ∙ slot-start long n in
         ending g (omega (arith, end)) (λ d. omega (arith, end, d))
-    sixth false e g not-slot =
-        let end = later 9 (suc f) n (omega (arith, ltb-false f 7 e)) in
-        ending g (omega (arith, end, frame-end n)) (λ d. omega (arith, end, frame-end n, d))
+    eighth false e g not-slot =
+        let end = later long n 10 (suc f) (omega (arith, ltb-false f 8 e)) in
+        ending g (omega (arith, end, frame-end long n)) (λ d. omega (arith, end, frame-end long n, d))
 
-    fifth : (t : Bool) → eqb f 7 ≡ t → 5 < f → Stage f n
-    fifth true e g = let i = eqb-true f 7 e in ack-slot i (ends 7 i ∙ last-start n)
-    fifth false e g = sixth (ltb f 7) refl g (eqb-false f 7 e)
+    seventh : (t : Bool) → eqb f 8 ≡ t → 6 < f → Stage long n f
+    seventh true e g = let i = eqb-true f 8 e in ack-slot i (ends 8 i ∙ last-start long n)
+    seventh false e g = eighth (ltb f 8) refl g (eqb-false f 8 e)
 
-    fourth : (t : Bool) → eqb f 5 ≡ t → 5 ≤ f → Stage f n
-    fourth true e g = let i = eqb-true f 5 e in crc-bits i (starts 5 i ∙ crc-start n) (ends 5 i ∙ ending-start n)
-    fourth false e g =
-        let i = eqb-false f 5 e in
-        fifth (eqb f 7) refl (omega arith)
+    sixth : (t : Bool) → eqb f 6 ≡ t → 6 ≤ f → Stage long n f
+    sixth true e g = let i = eqb-true f 6 e in crc-bits i (ends 6 i ∙ ending-start long n)
+    sixth false e g = let i = eqb-false f 6 e in seventh (eqb f 8) refl (omega arith)
 
-    third : (t : Bool) → eqb f 4 ≡ t → 4 ≤ f → Stage f n
-    third true e g = let i = eqb-true f 4 e in data-bits i (starts 4 i ∙ data-start n) (ends 4 i ∙ crc-start n)
-    third false e g = let i = eqb-false f 4 e in fourth (eqb f 5) refl (omega arith)
+    fifth : (t : Bool) → eqb f 5 ≡ t → 5 ≤ f → Stage long n f
+    fifth true e g = let i = eqb-true f 5 e in data-bits i (ends 5 i ∙ crc-start long n)
+    fifth false e g = let i = eqb-false f 5 e in sixth (eqb f 6) refl (omega arith)
 
-    second : (t : Bool) → eqb f 3 ≡ t → 3 ≤ f → Stage f n
-    second true e g = let i = eqb-true f 3 e in dlc i (ends 3 i ∙ data-start n)
-    second false e g = let i = eqb-false f 3 e in third (eqb f 4) refl (omega arith)
+    fourth : (t : Bool) → eqb f 4 ≡ t → 4 ≤ f → Stage long n f
+    fourth true e g = let i = eqb-true f 4 e in dlc i (ends 4 i ∙ data-start long n)
+    fourth false e g = let i = eqb-false f 4 e in fifth (eqb f 5) refl (omega arith)
 
-    first : (t : Bool) → ltb f 3 ≡ t → Stage f n
-    first true e = let i = ltb-true f 3 e in before-dlc i (omega (arith, later (suc f) 3 n i, dlc-start n))
-    first false e = second (eqb f 3) refl (ltb-false f 3 e)
+    third : (t : Bool) → ltb f 4 ≡ t → 1 < f → Stage long n f
+    third true e g =
+        let i = ltb-true f 4 e in
+        before-dlc g i (omega (arith, later long n (suc f) 4 i, dlc-start long n))
+    third false e g = fourth (eqb f 4) refl (ltb-false f 4 e)
 
--- a frame that reaches into field f, or up to its end; the DLC is known behind the header
-module _ (f n : ℕ) (frame : List ℕ) (known : 3 < f → dlcIn frame ≡ n) where
-  pub early-or-known : length frame < endOf f n → (length frame < 19) ⊎ (dlcIn frame ≡ n)
-  early-or-known to = go (ltb 3 f) refl
+    second : (t : Bool) → eqb f 1 ≡ t → 1 ≤ f → Stage long n f
+    second true e g = let i = eqb-true f 1 e in ide i (ends 1 i ∙ form-start long n)
+    second false e g = let i = eqb-false f 1 e in third (ltb f 4) refl (omega arith)
+
+    first : (t : Bool) → eqb f 0 ≡ t → Stage long n f
+    first true e = let i = eqb-true f 0 e in first-bit i (ends 0 i ∙ identifier-start long n)
+    first false e = second (eqb f 1) refl (omega (arith, eqb-false f 0 e))
+
+-- what is known of a frame's bits so far
+pub data Known (long : Bool) (n : ℕ) (frame : List ℕ) : Type 0 where
+  early : length frame < 14 → Known long n frame
+  in-header : longIn frame ≡ long → length frame < headerWidth long → Known long n frame
+  all-known : longIn frame ≡ long → dlcIn frame ≡ n → Known long n frame
+
+-- a frame that reaches into field f, or up to its end; the form is known behind IDE, the DLC behind the header
+module _ (f : ℕ) (long : Bool) (n : ℕ) (frame : List ℕ) (formed : 1 < f → longIn frame ≡ long) (known : 4 < f → dlcIn frame ≡ n) where
+  pub how-known : length frame < endOf f long n → Known long n frame
+  how-known to = form (ltb 1 f) refl
     where
-      go : (t : Bool) → ltb 3 f ≡ t → (length frame < 19) ⊎ (dlcIn frame ≡ n)
-      go true e = inr (known (ltb-true 3 f e))
-      go false e = inl (omega (arith, to, header-end f n (ltb-false 3 f e)))
+      behind-ide : 1 < f → (t : Bool) → ltb 4 f ≡ t → Known long n frame
+      behind-ide late true e = all-known (formed late) (known (ltb-true 4 f e))
+      behind-ide late false e = in-header (formed late) (omega (arith, to, header-end long n f (ltb-false 4 f e)))
 
-  pub to-the-crc : length frame < endOf f n → f ≤ 6 → length frame ≤ crcStart frame + 15
+      form : (t : Bool) → ltb 1 f ≡ t → Known long n frame
+      form true e = behind-ide (ltb-true 1 f e) (ltb 4 f) refl
+      form false e = early (omega (arith, to, ide-end long n f (ltb-false 1 f e)))
+
+  pub crc-known : 4 < f → crcStart frame ≡ headerWidth long + 8 * n
+  unfolding crcStart
+  crc-known late = ap₂ (λ (t : Bool) (k : ℕ). headerWidth t + 8 * k) (formed (omega arith)) (known late)
+
+  pub early-or-known : length frame < endOf f long n → (length frame < dataStart frame) ⊎ (crcStart frame ≡ headerWidth long + 8 * n)
+  unfolding crcStart
+  early-or-known to = go (how-known to)
+    where
+      go : Known long n frame → (length frame < dataStart frame) ⊎ (dataStart frame + 8 * dlcIn frame ≡ headerWidth long + 8 * n)
+      go (early e) = inl (omega (arith, width-least (longIn frame)))
+      go (in-header is e) = inl (omega (arith, e, ap headerWidth is))
+      go (all-known is e) = inr (ap₂ (λ (t : Bool) (k : ℕ). headerWidth t + 8 * k) is e)
+
+  pub to-the-crc : length frame < endOf f long n → f ≤ 7 → length frame ≤ crcStart frame + 15
   unfolding crcStart
   to-the-crc to g = go (early-or-known to)
     where
-      go : (length frame < 19) ⊎ (dlcIn frame ≡ n) → length frame ≤ 19 + 8 * dlcIn frame + 15
+      go : (length frame < dataStart frame) ⊎ (dataStart frame + 8 * dlcIn frame ≡ headerWidth long + 8 * n)
+          → length frame ≤ dataStart frame + 8 * dlcIn frame + 15
       go (inl e) = omega arith
-      go (inr e) = omega (arith, to, delimiter-end f n g)
+      go (inr e) = omega (arith, e, to, delimiter-end long n f g)
 
-  pub behind-the-crc : 34 + 8 * n < length frame → 5 < f → crcStart frame + 15 < length frame
-  unfolding crcStart
-  behind-the-crc over g = omega (arith, known (omega arith))
+  pub behind-the-crc : headerWidth long + 8 * n + 15 < length frame → 6 < f → crcStart frame + 15 < length frame
+  behind-the-crc over g = omega (arith, crc-known (omega arith))
 
-  module _ (from : startOf f n ≤ length frame) (to : length frame < endOf f n) where
-    pub not-complete : f < 9 → complete frame ≡ false
-    unfolding complete crcStart
-    not-complete h = ne-eqb (length frame) (19 + 8 * dlcIn frame + 25) (λ e. go (early-or-known to) e)
-      where
-        go : (length frame < 19) ⊎ (dlcIn frame ≡ n) → length frame ≡ 19 + 8 * dlcIn frame + 25 → ⊥
-        go (inl d) e = omega arith
-        go (inr d) e = omega (arith, to, end-within f n h)
+  pub not-complete : length frame < endOf f long n → f < 10 → complete frame ≡ false
+  unfolding complete crcStart
+  not-complete to h = ne-eqb (length frame) (dataStart frame + 8 * dlcIn frame + 25) (λ e. go (early-or-known to) e)
+    where
+      go : (length frame < dataStart frame) ⊎ (dataStart frame + 8 * dlcIn frame ≡ headerWidth long + 8 * n)
+          → length frame ≡ dataStart frame + 8 * dlcIn frame + 25 → ⊥
+      go (inl d) e = omega arith
+      go (inr d) e = omega (arith, d, to, end-within long n f h)

@@ -2,10 +2,11 @@
 --     Tells        the run that these raw bits end with; before the first bit there is none
 --     five-told    a stuff bit is due by the raw bits where it is due by the run
 --     bit-told     and where it is due, the last raw bit is the run's
+--     twice-told   the last two raw bits are the same exactly where a run of more than one ends
 --     told-more    a bit more, where no stuff bit is due
 --     told-stuff   a stuff bit
 use mathlib.Core.Path.{_≡_, refl, sym, ap, _∙_}
-use mathlib.Core.Bool.{Bool, true, false, cond}
+use mathlib.Core.Bool.{Bool, true, false, cond, not}
 use Prim.Native.Nat.{ℕ, zero, suc, _+_, _-_, _*_, _/_, _%_, _^_, _<_}
 use native.Mathlib.Omega.{arith}
 use lib.Dec.{eqb, ltb, T}
@@ -14,7 +15,7 @@ use Rattle.bits.specs.declared.Run.{Run}
 use Rattle.bits.specs.Stuffing.{counted}
 use Rattle.bits.proofs.Everywhere.{everywhere, everywhere-at}
 use Rattle.scanning.specs.Scan.{runWith}
-use Rattle.scanning.specs.Steps.{dueIn}
+use Rattle.scanning.specs.Steps.{dueIn, twice}
 
 -- how many of the k lowest bits of t, from the lowest on, are b
 abbrev trailing : ℕ → ℕ → ℕ → ℕ
@@ -59,6 +60,18 @@ five-is : (t : ℕ) → t < 32 → five t ≡ eqb (runIn t) 5
 unfolding five-test
 five-is t h = bit01-only _ _ (eqb-true _ _ (told (five-test t) (everywhere-at five-test 32 five-tested t h)))
 
+-- a run of one ends them exactly where the last two differ
+twice-test : ℕ → Bool
+twice-test t = eqb (bit01 (twice t)) (bit01 (not (eqb (runIn t) 1)))
+
+twice-tested : T (everywhere twice-test 32)
+unfolding twice-test twice runIn
+twice-tested = tt
+
+twice-is : (t : ℕ) → t < 32 → twice t ≡ not (eqb (runIn t) 1)
+unfolding twice-test
+twice-is t h = bit01-only _ _ (eqb-true _ _ (told (twice-test t) (everywhere-at twice-test 32 twice-tested t h)))
+
 -- behind a bit b more, where fewer than five were equal
 more-test : ℕ → ℕ → Bool
 more-test b t = cond (eqb (runIn t) 5) true (eqb (cond (eqb b (t % 2)) (runIn t + 1) 1) (runIn ((t * 2 + b) % 32)))
@@ -79,6 +92,14 @@ pub five-told : (raw : ℕ) (run : Run) → Tells raw run → dueIn raw ≡ eqb 
 unfolding dueIn
 five-told raw run (none e b n) = rw (e, n) refl
 five-told raw run (some b n) = rw n (five-is (raw % 32) (omega arith))
+
+pub twice-told : (raw : ℕ) (run : Run) → Tells raw run → (run .count ≡ 0 → ⊥) → twice raw ≡ not (eqb (run .count) 1)
+unfolding twice
+twice-told raw run (none e b n) begun = absurd (begun n)
+twice-told raw run (some b n) begun =
+    let before : raw / 2 % 2 ≡ raw % 32 / 2 % 2 = omega arith in
+    let last : raw % 2 ≡ raw % 32 % 2 = omega arith in
+    rw (before, last, n) (twice-is (raw % 32) (omega arith))
 
 pub bit-told : (raw : ℕ) (run : Run) → Tells raw run → run .count ≡ 5 → run .bit ≡ raw % 2
 bit-told raw run (none e b n) h = absurd (omega arith)

@@ -2,13 +2,12 @@
 --     mostAt, most-bit    the greatest bit that may stand in row f, as the code has it, is at most 1
 --     most-slot, slot-bit    and in the ACK slot the reading's, which is at most 1 too
 --     readingOf, reading-told    from which the reading can be told
---     must-header         up to the CRC either may stand next where a 1 may, else a 0 must
+--     must-field          up to the CRC either may stand next where a 1 may, else a 0 must
 --     must-slot           in the ACK slot either
 --     must-one            behind the CRC elsewhere a 1 must
-use mathlib.Core.Path.{_≡_, refl, sym, ap, _∙_, subst}
+use mathlib.Core.Path.{_≡_, refl, sym, ap, ap₂, _∙_, subst}
 use mathlib.Core.Bool.{Bool, true, false, cond, _&&_}
 use mathlib.Core.List.{List, [], _∷_, _++_}
-use mathlib.Core.Logic.{_⊎_, inl, inr}
 use Prim.Native.Nat.{ℕ, zero, suc, _+_, _-_, _*_, _≤_, _<_}
 use native.Mathlib.Nat.{zero-add}
 use native.Mathlib.Omega.{arith}
@@ -18,14 +17,14 @@ use lib.Seq.{getD-append-add, getD-set-other}
 use borrow.Author.Tests.{lt-ltb, le-ltb, eq-eqb, ne-eqb, eqb-true, eqb-false, leb-true}
 use mir.Facts.{and-yes}
 use Rattle.bits.proofs.Everywhere.{everywhere, everywhere-at}
-use Rattle.scanning.specs.Form.{either, form}
-use Rattle.scanning.specs.Scan.{dlcIn, slotMost, mustBe}
+use Rattle.scanning.specs.Form.{either, headerForm, form}
+use Rattle.scanning.specs.Scan.{longIn, dlcIn, slotMost, mustBe}
 use Rattle.scanning.specs.Steps.{widthsOf, mostList, mostOf}
 use Rattle.scanning.specs.declared.AckSlot.{AckSlot}
 use Rattle.scanning.specs.declared.AckSlot.the-variants.{Acknowledged, Either}
 use Rattle.scanning.specs.declared.Reading.{Reading}
-use Rattle.scanning.proofs.Partial.{must-early}
-use Rattle.scanning.proofs.Positions.{before, startOf, endOf, end-is, early-or-known}
+use Rattle.scanning.proofs.Partial.{must-early, must-header}
+use Rattle.scanning.proofs.Positions.{before, startOf, endOf, end-is, Known, early, in-header, all-known, how-known}
 
 -- the greatest bit that may stand in row f
 abbrev pub mostAt : Reading → ℕ → ℕ
@@ -33,7 +32,7 @@ mostAt reading f = getD (mostOf reading) f 0
 
 -- the bit that each of its bits must be, by the form
 mustList : List ℕ
-mustList = 0 ∷ either ∷ 0 ∷ either ∷ either ∷ either ∷ 1 ∷ either ∷ 1 ∷ []
+mustList = 0 ∷ either ∷ either ∷ 0 ∷ either ∷ either ∷ either ∷ 1 ∷ either ∷ 1 ∷ []
 
 abbrev mustAt : ℕ → ℕ
 mustAt f = getD mustList f 0
@@ -57,18 +56,19 @@ form-at (suc f) (x ∷ l) (b ∷ m) i g h =
     rw (at, getD-append-add (replicate x b) (formOf l m) (before f l + i) either) (form-at f l m i (omega arith) h)
 
 -- the rows stand for the form
-fields-form : (n : ℕ) → formOf (widthsOf n) mustList ≡ form n
-unfolding form widthsOf mustList
-fields-form n = refl
+fields-form : (long : Bool) (n : ℕ) → formOf (widthsOf long n) mustList ≡ form long n
+unfolding headerForm form widthsOf mustList
+fields-form true n = refl
+fields-form false n = refl
 
 -- ---- the rows, each tested
 
 row-test : ℕ → Bool
 row-test f =
     let most = getD mostList f 0 in
-    leb most 1 && cond (ltb 5 f) (eqb (mustAt f) (cond (eqb f 7) either 1)) (eqb (mustAt f) (2 * most))
+    leb most 1 && cond (ltb 6 f) (eqb (mustAt f) (cond (eqb f 8) either 1)) (eqb (mustAt f) (2 * most))
 
-row-tested : T (everywhere row-test 9)
+row-tested : T (everywhere row-test 10)
 unfolding row-test mostList mustList
 row-tested = tt
 
@@ -76,25 +76,25 @@ told : (t : Bool) → T t → t ≡ true
 told true x = refl
 told false x = absurd x
 
-module _ (f : ℕ) (h : f < 9) where
+module _ (f : ℕ) (h : f < 10) where
   abbrev rowMost : ℕ
   rowMost = getD mostList f 0
 
-  tested : (rowMost ≤ 1) × (cond (ltb 5 f) (eqb (mustAt f) (cond (eqb f 7) either 1)) (eqb (mustAt f) (2 * rowMost)) ≡ true)
+  tested : (rowMost ≤ 1) × (cond (ltb 6 f) (eqb (mustAt f) (cond (eqb f 8) either 1)) (eqb (mustAt f) (2 * rowMost)) ≡ true)
   unfolding row-test
   tested =
-      let both = and-yes (leb rowMost 1) _ (everywhere-at row-test 9 row-tested f h) in
+      let both = and-yes (leb rowMost 1) _ (everywhere-at row-test 10 row-tested f h) in
       (leb-true _ _ (told (leb rowMost 1) (both .0)), told _ (both .1))
 
-  must-row : f ≤ 5 → mustAt f ≡ 2 * rowMost
-  must-row g = eqb-true _ _ (rw (le-ltb 5 f g) at (tested .1))
+  must-row : f ≤ 6 → mustAt f ≡ 2 * rowMost
+  must-row g = eqb-true _ _ (rw (le-ltb 6 f g) at (tested .1))
 
-  must-behind : 5 < f → mustAt f ≡ cond (eqb f 7) either 1
-  must-behind g = eqb-true _ _ (rw (lt-ltb 5 f g) at (tested .1))
+  must-behind : 6 < f → mustAt f ≡ cond (eqb f 8) either 1
+  must-behind g = eqb-true _ _ (rw (lt-ltb 6 f g) at (tested .1))
 
 -- ---- with the reading's in the ACK slot
 
-pub most-slot : (reading : Reading) → mostAt reading 7 ≡ slotMost (reading .slot)
+pub most-slot : (reading : Reading) → mostAt reading 8 ≡ slotMost (reading .slot)
 unfolding mostOf mostList
 most-slot reading = refl
 
@@ -102,13 +102,13 @@ pub slot-bit : (slot : AckSlot) → slotMost slot ≤ 1
 slot-bit Acknowledged = omega arith
 slot-bit Either = omega arith
 
-most-row : (reading : Reading) (f : ℕ) → (f ≡ 7 → ⊥) → mostAt reading f ≡ getD mostList f 0
+most-row : (reading : Reading) (f : ℕ) → (f ≡ 8 → ⊥) → mostAt reading f ≡ getD mostList f 0
 unfolding mostOf
-most-row reading f n = getD-set-other mostList 7 f (slotMost (reading .slot)) 0 n
+most-row reading f n = getD-set-other mostList 8 f (slotMost (reading .slot)) 0 n
 
 -- the reading for which such rows were made
 unfoldable pub readingOf : List ℕ → Reading
-readingOf most = record { slot = cond (eqb (getD most 7 0) 0) Acknowledged Either }
+readingOf most = record { slot = cond (eqb (getD most 8 0) 0) Acknowledged Either }
 
 pub reading-told : (reading : Reading) (most : List ℕ) → most ≡ mostOf reading → readingOf most ≡ reading
 unfolding readingOf mostOf mostList
@@ -118,41 +118,44 @@ reading-told reading most e = ap readingOf e ∙ ap (λ (slot : AckSlot). record
     back Acknowledged = refl
     back Either = refl
 
-pub most-bit : (reading : Reading) (f : ℕ) → f < 9 → mostAt reading f ≤ 1
-most-bit reading f h = go (eqb f 7) refl
+pub most-bit : (reading : Reading) (f : ℕ) → f < 10 → mostAt reading f ≤ 1
+most-bit reading f h = go (eqb f 8) refl
   where
-    go : (t : Bool) → eqb f 7 ≡ t → mostAt reading f ≤ 1
+    go : (t : Bool) → eqb f 8 ≡ t → mostAt reading f ≤ 1
     go true e =
-        let same = ap (mostAt reading) (eqb-true f 7 e) in
+        let same = ap (mostAt reading) (eqb-true f 8 e) in
         omega (arith, same, most-slot reading, slot-bit (reading .slot))
-    go false e = omega (arith, most-row reading f (eqb-false f 7 e), tested f h .0)
+    go false e = omega (arith, most-row reading f (eqb-false f 8 e), tested f h .0)
 
--- a frame that reaches into row f; the DLC is known behind the header
-module _ (f n : ℕ) (frame : List ℕ) (known : 3 < f → dlcIn frame ≡ n) (from : startOf f n ≤ length frame) (to : length frame < endOf f n) where
-  must-is : f < 9 → mustBe frame ≡ mustAt f
+-- a frame that reaches into row f; the form is known behind IDE, the DLC behind the header
+module _ (f : ℕ) (long : Bool) (n : ℕ) (frame : List ℕ) (formed : 1 < f → longIn frame ≡ long) (known : 4 < f → dlcIn frame ≡ n)
+    (from : startOf f long n ≤ length frame) (to : length frame < endOf f long n) where
+  must-is : f < 10 → mustBe frame ≡ mustAt f
   unfolding mustBe startOf mustList
-  must-is h = same (early-or-known f n frame known to) ∙ ap (λ (l : List ℕ). getD l p either) (sym (fields-form n)) ∙ at
+  must-is h = same (how-known f long n frame formed known to) ∙ ap (λ (l : List ℕ). getD l p either) (sym (fields-form long n)) ∙ at
     where
       p : ℕ
       p = length frame
 
-      same : (p < 19) ⊎ (dlcIn frame ≡ n) → getD (form (dlcIn frame)) p either ≡ getD (form n) p either
-      same (inl e) = must-early (dlcIn frame) p e ∙ sym (must-early n p e)
-      same (inr e) = ap (λ (k : ℕ). getD (form k) p either) e
+      same : Known long n frame → getD (form (longIn frame) (dlcIn frame)) p either ≡ getD (form long n) p either
+      same (early e) = must-early (longIn frame) (dlcIn frame) p e ∙ sym (must-early long n p e)
+      same (in-header is e) =
+          ap (λ (t : Bool). getD (form t (dlcIn frame)) p either) is ∙ must-header long (dlcIn frame) p e ∙ sym (must-header long n p e)
+      same (all-known is e) = ap₂ (λ (t : Bool) (k : ℕ). getD (form t k) p either) is e
 
-      at : getD (formOf (widthsOf n) mustList) p either ≡ mustAt f
+      at : getD (formOf (widthsOf long n) mustList) p either ≡ mustAt f
       at =
-          let sum : startOf f n + (p - startOf f n) ≡ p = omega (arith, from) in
-          subst (λ (k : ℕ). getD (formOf (widthsOf n) mustList) k either ≡ mustAt f) sum
-          (form-at f (widthsOf n) mustList (p - startOf f n) h (omega (arith, from, to, end-is f n)))
+          let sum : startOf f long n + (p - startOf f long n) ≡ p = omega (arith, from) in
+          subst (λ (k : ℕ). getD (formOf (widthsOf long n) mustList) k either ≡ mustAt f) sum
+          (form-at f (widthsOf long n) mustList (p - startOf f long n) h (omega (arith, from, to, end-is long n f)))
 
-  pub must-header : (reading : Reading) → f ≤ 5 → mustBe frame ≡ 2 * mostAt reading f
-  must-header reading g =
-      let h : f < 9 = omega arith in
+  pub must-field : (reading : Reading) → f ≤ 6 → mustBe frame ≡ 2 * mostAt reading f
+  must-field reading g =
+      let h : f < 10 = omega arith in
       must-is h ∙ must-row f h g ∙ ap (λ (k : ℕ). 2 * k) (sym (most-row reading f (λ e. omega arith)))
 
-  pub must-slot : f ≡ 7 → mustBe frame ≡ either
-  must-slot i = let h : f < 9 = omega arith in must-is h ∙ must-behind f h (omega arith) ∙ rw (eq-eqb f 7 i) refl
+  pub must-slot : f ≡ 8 → mustBe frame ≡ either
+  must-slot i = let h : f < 10 = omega arith in must-is h ∙ must-behind f h (omega arith) ∙ rw (eq-eqb f 8 i) refl
 
-  pub must-one : f < 9 → 5 < f → (f ≡ 7 → ⊥) → mustBe frame ≡ 1
-  must-one h g n = must-is h ∙ must-behind f h g ∙ rw (ne-eqb f 7 n) refl
+  pub must-one : f < 10 → 6 < f → (f ≡ 8 → ⊥) → mustBe frame ≡ 1
+  must-one h g n = must-is h ∙ must-behind f h g ∙ rw (ne-eqb f 8 n) refl

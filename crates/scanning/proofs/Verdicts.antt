@@ -6,10 +6,11 @@
 --     fixed-bit        13
 --     frame-bit        a bit that may stand there is judged by what the frame then shows
 --     dlc-taken, taken-dlc    a DLC is taken exactly when it is not 1 and at most 8
+--     form-refused     13, with IDE, at the bit before it
 --     length-refused   3, with the fourth DLC bit
 --     crc-refused      12, with the last CRC bit
 --     slot-refused     20, in the ACK slot
---     nothing-shown    every other bit is right, and so are these three where DLC, CRC and ACK slot are
+--     nothing-shown    every other bit is right, and so are these four where the bit before IDE, DLC, CRC and ACK slot are
 use mathlib.Core.Path.{_≡_, refl, ap}
 use mathlib.Core.Bool.{Bool, true, false, not, _&&_, _||_, true≢false}
 use mathlib.Core.List.{List, [], _∷_, _++_}
@@ -21,7 +22,7 @@ use borrow.Author.Tests.{lt-ltb, le-ltb, eq-eqb, ne-eqb, ltb-false, eqb-true, eq
 use Rattle.bits.specs.declared.Run.{Run}
 use Rattle.refusals.specs.declared.Refusal.the-variants.{FieldLength, LineByte, StuffBit, LineLength, Crc, FixedBit, NotAcknowledged}
 use Rattle.scanning.specs.Form.{fits}
-use Rattle.scanning.specs.Scan.{dlcIn, crcStart, complete, stuffDue, mustBe, dlcRefused, crcRight, slotRight, right, wrong, shown, verdict}
+use Rattle.scanning.specs.Scan.{longIn, headerWidth, dataStart, dlcIn, crcStart, complete, stuffDue, mustBe, dlcRefused, crcRight, slotRight, formRight, beforeIde, right, wrong, shown, verdict, runWith}
 use Rattle.scanning.specs.declared.Reading.{Reading}
 
 -- the bit b, in the place where the frame's bits so far and the run are these
@@ -48,7 +49,7 @@ module _ (reading : Reading) (run : Run) (frame : List ℕ) (place b : ℕ) wher
       unfolding verdict
       fixed-bit due e = simp (begun, le-ltb 1 b bit, due, e)
 
-      pub frame-bit : stuffDue run frame ≡ false → fits (mustBe frame) b ≡ true → verdict reading run frame place b ≡ shown reading (frame ++ (b ∷ [])) place
+      pub frame-bit : stuffDue run frame ≡ false → fits (mustBe frame) b ≡ true → verdict reading run frame place b ≡ shown reading (runWith run b) (frame ++ (b ∷ [])) place
       unfolding verdict
       frame-bit due e = simp (begun, le-ltb 1 b bit, due, e)
 
@@ -65,36 +66,49 @@ taken-dlc frame e =
     neither true t d = absurd (true≢false d)
     neither false t d = (refl, d)
 
--- the frame's bits, the one at this place the last of them
-module _ (reading : Reading) (frame : List ℕ) (place : ℕ) where
-  pub length-refused : length frame ≡ 19 → dlcRefused frame ≡ true → shown reading frame place ≡ wrong (FieldLength place)
+-- the frame's bits, the one at this place the last of them, and the run that it ends
+module _ (reading : Reading) (run : Run) (frame : List ℕ) (place : ℕ) where
+  pub form-refused : length frame ≡ 14 → formRight frame ≡ false → shown reading run frame place ≡ wrong (FixedBit (beforeIde run place))
   unfolding shown
-  length-refused e r = simp (eq-eqb (length frame) 19 e, r)
+  form-refused e r = simp (eq-eqb (length frame) 14 e, r)
 
-  pub crc-refused : length frame ≡ crcStart frame + 15 → crcRight frame ≡ false → shown reading frame place ≡ wrong (Crc place)
-  unfolding shown crcStart
-  crc-refused e r =
-      let longer : length frame ≡ 19 → ⊥ = λ d. omega arith in
-      simp (ne-eqb (length frame) 19 longer, eq-eqb (length frame) (19 + 8 * dlcIn frame + 15) e, r)
+  -- behind IDE
+  module _ (late : 14 < length frame) where
+    behind-ide : eqb (length frame) 14 ≡ false
+    behind-ide = ne-eqb (length frame) 14 (λ d. omega arith)
 
-  pub slot-refused : length frame ≡ crcStart frame + 17 → slotRight reading frame ≡ false → shown reading frame place ≡ wrong (NotAcknowledged place)
-  unfolding shown crcStart
-  slot-refused e r =
-      let behind : length frame ≡ 19 → ⊥ = λ d. omega arith in
-      let longer : length frame ≡ 19 + 8 * dlcIn frame + 15 → ⊥ = λ d. omega arith in
-      simp (
-        ne-eqb (length frame) 19 behind,
-        ne-eqb (length frame) (19 + 8 * dlcIn frame + 15) longer,
-        eq-eqb (length frame) (19 + 8 * dlcIn frame + 17) e,
-        r,
-      )
+    pub length-refused : length frame ≡ dataStart frame → dlcRefused frame ≡ true → shown reading run frame place ≡ wrong (FieldLength place)
+    unfolding shown
+    length-refused e r = simp (behind-ide, eq-eqb (length frame) (dataStart frame) e, r)
 
-  pub nothing-shown : (length frame ≡ 19 → dlcRefused frame ≡ false) → (length frame ≡ crcStart frame + 15 → crcRight frame ≡ true)
-      → (length frame ≡ crcStart frame + 17 → slotRight reading frame ≡ true) → shown reading frame place ≡ right
+    pub crc-refused : length frame ≡ crcStart frame + 15 → crcRight frame ≡ false → shown reading run frame place ≡ wrong (Crc place)
+    unfolding shown crcStart
+    crc-refused e r =
+        let longer : length frame ≡ dataStart frame → ⊥ = λ d. omega arith in
+        simp (behind-ide, ne-eqb (length frame) (dataStart frame) longer, eq-eqb (length frame) (dataStart frame + 8 * dlcIn frame + 15) e, r)
+
+    pub slot-refused : length frame ≡ crcStart frame + 17 → slotRight reading frame ≡ false
+        → shown reading run frame place ≡ wrong (NotAcknowledged place)
+    unfolding shown crcStart
+    slot-refused e r =
+        let behind : length frame ≡ dataStart frame → ⊥ = λ d. omega arith in
+        let longer : length frame ≡ dataStart frame + 8 * dlcIn frame + 15 → ⊥ = λ d. omega arith in
+        simp (
+          behind-ide,
+          ne-eqb (length frame) (dataStart frame) behind,
+          ne-eqb (length frame) (dataStart frame + 8 * dlcIn frame + 15) longer,
+          eq-eqb (length frame) (dataStart frame + 8 * dlcIn frame + 17) e,
+          r,
+        )
+
+  pub nothing-shown : (length frame ≡ 14 → formRight frame ≡ true) → (length frame ≡ dataStart frame → dlcRefused frame ≡ false)
+      → (length frame ≡ crcStart frame + 15 → crcRight frame ≡ true)
+      → (length frame ≡ crcStart frame + 17 → slotRight reading frame ≡ true) → shown reading run frame place ≡ right
   unfolding shown
-  nothing-shown fine check slot =
+  nothing-shown form fine check slot =
       rw (
-        quiet (eqb (length frame) 19) (dlcRefused frame) (λ e. fine (eqb-true _ _ e)),
+        quiet (eqb (length frame) 14) (not (formRight frame)) (λ e. ap not (form (eqb-true _ _ e))),
+        quiet (eqb (length frame) (dataStart frame)) (dlcRefused frame) (λ e. fine (eqb-true _ _ e)),
         quiet (eqb (length frame) (crcStart frame + 15)) (not (crcRight frame)) (λ e. ap not (check (eqb-true _ _ e))),
         quiet (eqb (length frame) (crcStart frame + 17)) (not (slotRight reading frame)) (λ e. ap not (slot (eqb-true _ _ e))),
       )

@@ -9,6 +9,8 @@ use Rattle.bits.specs.Rows.{bits}
 use Rattle.refusals.specs.declared.Refusal.{Refusal}
 use Rattle.refusals.specs.declared.Refusal.the-variants.{FieldLength, LineByte, StuffBit, LineLength, Crc, FixedBit, NotAcknowledged}
 use Rattle.crc.specs.Crc.{crc}
+use Rattle.frame.specs.declared.Identifier.{Identifier}
+use Rattle.frame.specs.declared.Identifier.the-variants.{Base, Long}
 use Rattle.crc.specs.Dlc.{dataBytes}
 use Rattle.scanning.specs.Scan.{identifierIn, dlcIn, slotMost, Scanned, whole, stopped}
 use Rattle.scanning.specs.Held.{dataIn}
@@ -17,13 +19,14 @@ use Rattle.scanning.specs.declared.seen.Seen.{Seen}
 use Rattle.scanning.specs.declared.seen.Step.{Step}
 use Rattle.scanning.specs.declared.seen.Step.the-variants.{Next, Refused}
 
--- the rows that the code reads by, the fields of a frame with n data bytes, neighbours that must be the same bit in one row: how many
--- bits each has
-unfoldable pub widthsOf : ℕ → List ℕ
-widthsOf n =
+-- the rows that the code reads by, the fields of a frame of a form with n data bytes, neighbours that are judged alike, with nothing told between them, in one row: how
+-- many bits each has
+unfoldable pub widthsOf : Bool → ℕ → List ℕ
+widthsOf long n =
     1  -- start of frame
-    ∷ 11  -- identifier
-    ∷ 3  -- RTR, IDE, reserved bit
+    ∷ 13  -- eleven bits of the identifier, RTR or SRR, IDE
+    ∷ cond long 18 0  -- the low bits of a long identifier
+    ∷ cond long 3 1  -- reserved bit; in the long form RTR and two reserved bits
     ∷ 4  -- DLC
     ∷ 8 * n  -- data
     ∷ 15  -- CRC
@@ -36,8 +39,9 @@ widthsOf n =
 unfoldable pub mostList : List ℕ
 mostList =
     0  -- start of frame
-    ∷ 1  -- identifier
-    ∷ 0  -- RTR, IDE, reserved bit
+    ∷ 1  -- eleven bits of the identifier, RTR or SRR, IDE
+    ∷ 1  -- the low bits of a long identifier
+    ∷ 0  -- reserved bit; in the long form RTR and two reserved bits
     ∷ 1  -- DLC
     ∷ 1  -- data
     ∷ 1  -- CRC
@@ -48,7 +52,7 @@ mostList =
 
 -- in the ACK slot the reading says which
 unfoldable pub mostOf : Reading → List ℕ
-mostOf reading = set mostList 7 (slotMost (reading .slot))
+mostOf reading = set mostList 8 (slotMost (reading .slot))
 
 -- the place that comes first
 unfoldable pub least : ℕ → ℕ → ℕ
@@ -140,12 +144,33 @@ delimiterBit line seen = andThen (passed (seen .raw) line seen) (oneBit line)
 -- the next bit of a row behind the CRC
 unfoldable pub endingBit : ℕ → ℕ → List ℕ → Seen → Step
 endingBit f most line seen =
-    cond (eqb f 7) (slotBit most line seen) (cond (eqb f 6) (delimiterBit line seen) (oneBit line seen))
+    cond (eqb f 8) (slotBit most line seen) (cond (eqb f 7) (delimiterBit line seen) (oneBit line seen))
 
 -- the next bit of row f, and the stuff bit before it
 unfoldable pub lineBit : ℕ → ℕ → List ℕ → Seen → Step
 lineBit f most line seen =
-    cond (ltb 5 f) (endingBit f most line seen) (andThen (passed (1 + seen .raw % 2) line seen) (fieldBit most line))
+    cond (ltb 6 f) (endingBit f most line seen) (andThen (passed (1 + seen .raw % 2) line seen) (fieldBit most line))
+
+-- the last two bits of a number are the same
+unfoldable pub twice : ℕ → Bool
+twice number = eqb (number / 2 % 2) (number % 2)
+
+-- behind IDE: 13, or it is right
+unfoldable pub formRead : Seen → Step
+formRead seen =
+    cond (twice (seen .number)) (Next seen)
+    (cond (twice (seen .raw)) (Refused (FixedBit (seen .place - 3))) (Refused (FixedBit (seen .place - 2))))
+
+-- and how many bits the rows of the header then have
+unfoldable pub formWidths : Seen → List ℕ → List ℕ
+formWidths seen widths = set (set widths 2 (18 * (seen .number % 2))) 3 (1 + 2 * (seen .number % 2))
+
+-- behind the last bit of a row before the DLC's
+unfoldable pub headerEnd : ℕ → Seen → Step
+headerEnd f seen = cond (eqb f 1) (formRead seen) (Next seen)
+
+unfoldable pub headerWidths : ℕ → Seen → List ℕ → List ℕ
+headerWidths f seen widths = cond (eqb f 1) (formWidths seen widths) widths
 
 -- behind the last bit of the DLC: 3, or the header is whole
 unfoldable pub headerRead : Seen → Step
@@ -177,17 +202,19 @@ fieldRead seen =
 -- behind the last bit of the CRC: 12, or it is right
 unfoldable pub crcRead : Seen → Step
 crcRead seen =
-    cond (eqb (seen .number) (crc (bits 19 (seen .header) ++ bits (8 * dataBytes (seen .header % 16)) (seen .field)))) (Next seen)
+    cond (eqb (seen .number) (crc (bits 39 (seen .header) ++ bits (8 * dataBytes (seen .header % 16)) (seen .field)))) (Next seen)
     (Refused (Crc (seen .place - 1)))
 
 -- behind the last bit of row f
 unfoldable pub partEnd : ℕ → Seen → Step
 partEnd f seen =
-    cond (eqb f 3) (headerRead seen) (cond (eqb f 4) (fieldRead seen) (cond (eqb f 5) (crcRead seen) (Next seen)))
+    cond (ltb f 4) (headerEnd f seen)
+    (cond (eqb f 4) (headerRead seen) (cond (eqb f 5) (fieldRead seen) (cond (eqb f 6) (crcRead seen) (Next seen))))
 
--- and how many bits the rows then have: the DLC tells those of the data
+-- and how many bits the rows then have: IDE tells those of the header, the DLC those of the data
 unfoldable pub partWidths : ℕ → Seen → List ℕ → List ℕ
-partWidths f seen widths = cond (eqb f 3) (set widths 4 (8 * (seen .number % 16))) widths
+partWidths f seen widths =
+    cond (ltb f 4) (headerWidths f seen widths) (cond (eqb f 4) (set widths 5 (8 * (seen .number % 16))) widths)
 
 -- where reading stops in row f: 11 where the line ends before the row
 unfoldable pub fieldEnd : ℕ → Seen → Step
@@ -196,13 +223,25 @@ fieldEnd f seen = cond (ltb (seen .place) (seen .end)) (Refused (LineLength (see
 unfoldable pub widthsEnd : ℕ → Seen → List ℕ → List ℕ
 widthsEnd f seen widths = cond (ltb (seen .place) (seen .end)) widths (partWidths f seen widths)
 
+-- the form and the identifier that a header's number tells
+unfoldable pub longTold : ℕ → Bool
+longTold header = leb (2 ^ 19) header
+
+unfoldable pub identifierTold : ℕ → Identifier
+identifierTold header =
+    cond (longTold header) (Long (header / 2 ^ 27 % 2 ^ 11 * 2 ^ 18 + header / 2 ^ 7 % 2 ^ 18)) (Base (header / 2 ^ 7 % 2 ^ 11))
+
 -- the registers hold identifier, DLC and data bits of the frame
 pub record Holds (seen : Seen) (frame : List ℕ) : Type 0 where
-  pub identifier-is : seen .header / 128 % 2048 ≡ identifierIn frame
+  pub identifier-is : identifierTold (seen .header) ≡ identifierIn frame
   pub dlc-is : seen .header % 16 ≡ dlcIn frame
   pub data-is : seen .field ≡ dataIn frame
+
+-- a scan stopped with this refusal, wherever it was met
+abbrev pub Stopped : Scanned → Refusal → Type 0
+Stopped scan refusal = (met : ℕ) × (scan ≡ stopped met refusal)
 
 -- what scanning a line answers
 abbrev pub Reads : Step → Scanned → Type 0
 Reads (Next seen) scan = (frame : List ℕ) × (scan ≡ whole frame) × Holds seen frame
-Reads (Refused refusal) scan = scan ≡ stopped refusal
+Reads (Refused refusal) scan = Stopped scan refusal

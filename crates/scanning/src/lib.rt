@@ -6,11 +6,13 @@ ghost use Rattle.scanning.specs.Held.{heldIn};
 mod bit;
 mod field_end;
 mod fields;
+mod header;
 mod places;
 mod seen;
 mod stuffing;
 mod walk;
 
+use frame::Identifier;
 use refusals::Refusal;
 use seen::Step;
 
@@ -39,8 +41,8 @@ pub const OWN: Reading = Reading {
 // What the frame of a line holds: an identifier and n data bytes, whose bits are the lowest of `field`; or a refusal. [12.1, 12.15]
 pub enum Held {
     Frame {
-        identifier: u32,
         n: usize,
+        identifier: Identifier,
         field: u64,
     },
     Refused(Refusal),
@@ -52,16 +54,11 @@ pub fn scan(line: &[u8], reading: Reading) -> Held
     ensures { λ r. ⌜ r ≡ heldIn (scanned reading (now (line .entry))) ⌝ }
 {
     match walk::along(line, reading) {
-        Step::Next(seen) => {
-            // Behind the identifier stand seven bits: RTR, IDE, reserved bit, DLC.
-            let identifier = (seen.header / 128 % 2048) as u32;
-            let n = (seen.header % 16) as usize;
-            Held::Frame {
-                identifier,
-                n,
-                field: seen.field,
-            }
-        }
+        Step::Next(seen) => Held::Frame {
+            n: (seen.header % 16) as usize,
+            identifier: header::identifier(seen.header),
+            field: seen.field,
+        },
         Step::Refused(refusal) => Held::Refused(refusal),
     }
 }

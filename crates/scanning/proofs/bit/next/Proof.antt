@@ -14,7 +14,7 @@ ending-requires c κs =
 
 returns : tie.Need-returns
 returns c =
-    let late : 5 < c .before .before .before .args .field = omega (arith, c .before .if1 .taken) in
+    let late : 6 < c .before .before .before .args .field = omega (arith, c .before .if1 .taken) in
     c .ending .ensures ∙ ending-next _ _ _ _ late
 
 add-pass : tie.Need-add-pass

@@ -15,7 +15,7 @@ array-write-most c = search needs
 
 returns : tie.Need-returns
 unfolding mostOf mostList
-returns c = ap (λ (bit : ℕ). set mostList 7 bit) (c .slot-most .ensures)
+returns c = ap (λ (bit : ℕ). set mostList 8 bit) (c .slot-most .ensures)
 
 pub most-spec : {M : Type 1} → statement M
 most-spec = tie.close (tie.spec slot-most-requires array-write-most returns)
