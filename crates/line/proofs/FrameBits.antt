@@ -1,39 +1,95 @@
 -- The bits of a frame: of an identifier, the bytes of a data field and a bit in the ACK slot. Assumes nothing.
+--     longOf, header-long, header-start    IDE says the identifier's form, and the data start behind its header
 --     frameBits      these bits, in the order they are sent, without stuff bits
 --     front-length, frame-start    the CRC stands behind header and data bits
 --     frame-slot     the bit in the ACK slot
 --     frame-right    they are right, for a reading that takes that bit
 --     identifier-back, field-back    identifier and data field are found in them again
 use mathlib.Core.Path.{_≡_, refl, sym, ap, ap₂, _∙_}
+use mathlib.Core.Bool.{Bool, true, false}
 use mathlib.Core.List.{List, [], _∷_, _++_, append-assoc}
-use Prim.Native.Nat.{ℕ, _+_, _*_, _≤_, _<_}
+use Prim.Native.Nat.{ℕ, _+_, _-_, _*_, _/_, _^_, _≤_, _<_}
 use native.Mathlib.Nat.{mod-eq-of-lt}
 use native.Mathlib.Omega.{arith}
 use lib.Dec.{lit<}
 use lib.ListN.{length, getD, take, drop, replicate, length-append, length-replicate}
-use lib.Seq.{take-at, drop-at, getD-append-add}
+use lib.Seq.{take-all, take-at, drop-at, getD-append-add}
 use Rattle.bits.specs.Below.{Below}
 use Rattle.bits.specs.Rows.{bits, number}
 use Rattle.bits.specs.Packing.{unpacked, packed}
 use Rattle.bits.proofs.Below.{below-append}
-use Rattle.bits.proofs.Rows.{bits-length, bits-below, number-low}
+use Rattle.bits.proofs.Rows.{bits-length, bits-below, bits-split, number-low}
 use Rattle.bits.proofs.Packing.{unpacked-length, unpacked-below, packed-unpacked}
 use Rattle.crc.specs.Crc.{crc}
 use Rattle.crc.proofs.Division.{crc-below}
-use Rattle.frame.specs.Header.{header}
+use Rattle.frame.specs.declared.Identifier.{Identifier}
+use Rattle.frame.specs.declared.Identifier.the-variants.{Base, Long}
+use Rattle.frame.specs.Identifier.{Allowed}
+use Rattle.frame.specs.Header.{headerOf, longPart, header}
 use Rattle.frame.specs.Line.{crcBits, ending}
-use Rattle.frame.proofs.HeaderBits.{header-length, header-below, dlc-in-place}
+use Rattle.frame.proofs.HeaderBits.{headerLength, header-length, header-many, header-below, dlc-in-place}
 use Rattle.frame.proofs.LineParts.{crc-length}
-use Rattle.scanning.specs.Form.{either, free, form}
-use Rattle.scanning.specs.Scan.{identifierIn, dlcIn, crcStart, slotMost}
+use Rattle.scanning.specs.Form.{either, free, headerForm, form}
+use Rattle.scanning.specs.Scan.{longIn, headerWidth, dataStart, identifierIn, dlcIn, crcStart, slotMost}
 use Rattle.scanning.specs.declared.Reading.{Reading}
-use Rattle.scanning.proofs.Partial.{headerForm, dataForm, crcForm, form-is, dlc-there, dlc-stays}
+use Rattle.scanning.proofs.Partial.{dataForm, crcForm, form-is, header-form-length, long-stays, dlc-there, dlc-stays}
 use Rattle.scanning.proofs.Rows.{slot-bit}
 use Rattle.line.specs.Read.{fieldIn}
 use Rattle.line.proofs.Fits.{Fits, fits-append, fits-free, fits-same}
 use Rattle.line.proofs.Right.{Right}
 
-module _ (identifier : ℕ) (field : List ℕ) where
+-- ---- the header, in each form
+
+abbrev longOf : Identifier → Bool
+longOf (Base number) = false
+longOf (Long number) = true
+
+header-long : (identifier : Identifier) (n : ℕ) → longIn (header identifier n) ≡ longOf identifier
+unfolding header bits longIn
+header-long (Base number) n = refl
+header-long (Long number) n = refl
+
+width-is : (identifier : Identifier) → headerWidth (longOf identifier) ≡ headerLength identifier
+unfolding headerWidth
+width-is (Base number) = refl
+width-is (Long number) = refl
+
+header-start : (identifier : Identifier) (n : ℕ) → dataStart (header identifier n) ≡ headerLength identifier
+header-start identifier n = ap headerWidth (header-long identifier n) ∙ width-is identifier
+
+header-same : (identifier : Identifier) (n : ℕ) (l : List ℕ) → getD (header identifier n ++ l) 12 0 ≡ getD (header identifier n ++ l) 13 0
+unfolding header bits
+header-same (Base number) n l = refl
+header-same (Long number) n l = refl
+
+parts-fit : (number ide n : ℕ) (must more : List ℕ) → length must ≡ length more → Fits must more
+    → Fits (headerOf (free 11) either must (free 4)) (headerOf (bits 11 number) ide more (bits 4 n))
+parts-fit number ide n must more size fit =
+    let behind = fits-append must (0 ∷ free 4) more (0 ∷ bits 4 n) size fit (refl, fits-free 4 (bits 4 n)) in (
+      refl,
+      fits-append (free 11) (either ∷ either ∷ (must ++ (0 ∷ free 4))) (bits 11 number) (ide ∷ ide ∷ (more ++ (0 ∷ bits 4 n)))
+          (sym (bits-length 11 number)) (fits-free 11 (bits 11 number)) (refl, (refl, behind)),
+    )
+
+header-fits : (identifier : Identifier) (n : ℕ) → Fits (headerForm (longOf identifier)) (header identifier n)
+unfolding header headerForm
+header-fits (Base number) n = parts-fit number 0 n [] [] refl tt
+header-fits (Long number) n =
+    let low = bits 18 number in
+    let zeros : List ℕ = 0 ∷ 0 ∷ [] in
+    let size : length (longPart (free 18)) ≡ length (longPart low) = simp length-append (omega (arith, bits-length 18 number)) in
+    parts-fit (number / 2 ^ 18) 1 n (longPart (free 18)) (longPart low) size
+    (fits-append (free 18) zeros low zeros (sym (bits-length 18 number)) (fits-free 18 low) (fits-same zeros))
+
+header-back : (identifier : Identifier) (n : ℕ) (l : List ℕ) → Allowed identifier
+    → identifierIn (header identifier n ++ l) ≡ identifier
+unfolding identifierIn longIn header bits
+header-back (Base number) n l known = ap Base (number-low 11 number ∙ mod-eq-of-lt (omega arith))
+header-back (Long x) n l known = ap Long (ap (number 0) (sym (bits-split 11 18 x)) ∙ number-low 29 x ∙ mod-eq-of-lt (omega arith))
+
+-- ---- the frame
+
+module _ (identifier : Identifier) (field : List ℕ) where
   abbrev pub headerBits : List ℕ
   headerBits = header identifier (length field)
 
@@ -50,20 +106,34 @@ module _ (identifier : ℕ) (field : List ℕ) where
   unfolding frameBits
   parts ack = sym (append-assoc headerBits dataBits (checkBits ++ ending ack))
 
+  header-read : dataStart headerBits ≤ length headerBits
+  header-read = omega (arith, header-start identifier (length field), header-length identifier (length field))
+
+  frame-long-is : (ack : ℕ) → longIn (frameBits ack) ≡ longOf identifier
+  unfolding frameBits
+  frame-long-is ack =
+      long-stays headerBits (dataBits ++ (checkBits ++ ending ack)) (omega (arith, header-many identifier, header-length identifier (length field)))
+      ∙ header-long identifier (length field)
+
+  frame-data : (ack : ℕ) → dataStart (frameBits ack) ≡ headerLength identifier
+  frame-data ack = ap headerWidth (frame-long-is ack) ∙ width-is identifier
+
   frame-dlc : (ack : ℕ) → length field ≤ 8 → dlcIn (frameBits ack) ≡ length field
-  unfolding frameBits bits
+  unfolding frameBits
   frame-dlc ack few =
-      dlc-stays headerBits (dataBits ++ (checkBits ++ ending ack)) (omega (arith, header-length identifier (length field)))
-      ∙ dlc-there headerBits (omega (arith, header-length identifier (length field)))
+      dlc-stays headerBits (dataBits ++ (checkBits ++ ending ack)) header-read
+      ∙ dlc-there headerBits header-read
+      ∙ ap (λ (k : ℕ). number 0 (take 4 (drop (k - 4) headerBits))) (header-start identifier (length field))
       ∙ ap (λ (l : List ℕ). number 0 (take 4 l)) (dlc-in-place identifier (length field))
+      ∙ ap (number 0) (take-all 4 (bits 4 (length field)) (omega (arith, bits-length 4 (length field))))
       ∙ number-low 4 (length field) ∙ mod-eq-of-lt (omega arith)
 
-  pub front-length : length (headerBits ++ dataBits) ≡ 19 + 8 * length field
+  pub front-length : length (headerBits ++ dataBits) ≡ headerLength identifier + 8 * length field
   front-length = simp length-append (omega (arith, header-length identifier (length field), unpacked-length 8 field))
 
   pub frame-start : (ack : ℕ) → length field ≤ 8 → crcStart (frameBits ack) ≡ length (headerBits ++ dataBits)
   unfolding crcStart
-  frame-start ack few = rw (frame-dlc ack few) (sym front-length)
+  frame-start ack few = ap₂ (λ (w n : ℕ). w + 8 * n) (frame-data ack) (frame-dlc ack few) ∙ sym front-length
 
   -- ---- they are right
 
@@ -80,28 +150,25 @@ module _ (identifier : ℕ) (field : List ℕ) where
       rw (frame-start ack few, parts ack)
       (omega (arith, length-append (headerBits ++ dataBits) (checkBits ++ ending ack), length-append checkBits (ending ack)))
 
-  header-fits : Fits headerForm headerBits
-  unfolding header
-  header-fits =
-      let must : List ℕ = 0 ∷ 0 ∷ 0 ∷ free 4 in
-      let last : List ℕ = 0 ∷ 0 ∷ 0 ∷ bits 4 (length field) in
-      let fits : Fits must last = (refl, (refl, (refl, fits-free 4 (bits 4 (length field))))) in
-      let identifierBits = bits 11 identifier in
-      let size = sym (bits-length 11 identifier) in
-      (refl, fits-append (free 11) must identifierBits last size (fits-free 11 identifierBits) fits)
-
-  frame-fits : (ack : ℕ) → Fits (form (length field)) (frameBits ack)
+  frame-fits : (ack : ℕ) → Fits (form (longOf identifier) (length field)) (frameBits ack)
   unfolding frameBits
   frame-fits ack =
+      let must = headerForm (longOf identifier) in
+      let front : length must ≡ length headerBits
+      = header-form-length (longOf identifier) ∙ width-is identifier ∙ sym (header-length identifier (length field)) in
       let n = length field in
       let size : length (dataForm n) ≡ length dataBits = length-replicate (8 * n) either ∙ sym (unpacked-length 8 field) in
       let check = sym (crc-length headerBits dataBits) in
       let last : Fits (ending either) (ending ack) = (refl, (fits-free 1 (ack ∷ []) .0, fits-same (replicate 8 1))) in
-      rw (form-is n)
-      (fits-append headerForm (dataForm n ++ (crcForm ++ ending either)) headerBits (dataBits ++ (checkBits ++ ending ack))
-      (sym (header-length identifier n)) header-fits
+      rw (form-is (longOf identifier) n)
+      (fits-append must (dataForm n ++ (crcForm ++ ending either)) headerBits (dataBits ++ (checkBits ++ ending ack))
+      front (header-fits identifier n)
       (fits-append (dataForm n) (crcForm ++ ending either) dataBits (checkBits ++ ending ack) size (fits-free (8 * n) dataBits)
       (fits-append crcForm (ending either) checkBits (ending ack) check (fits-free 15 checkBits) last)))
+
+  frame-same : (ack : ℕ) → getD (frameBits ack) 12 0 ≡ getD (frameBits ack) 13 0
+  unfolding frameBits
+  frame-same ack = header-same identifier (length field) (dataBits ++ (checkBits ++ ending ack))
 
   frame-check : (ack : ℕ) → length field ≤ 8 →
       let all = frameBits ack in
@@ -135,7 +202,8 @@ module _ (identifier : ℕ) (field : List ℕ) where
       record {
         below = frame-below ack (omega (arith, slot-bit (reading .slot)));
         long = frame-long ack few;
-        fits = rw dlc (frame-fits ack);
+        fits = rw (frame-long-is ack, dlc) (frame-fits ack);
+        same = frame-same ack;
         not-one = λ e. not-one (sym dlc ∙ e);
         at-most = omega arith;
         check = frame-check ack few;
@@ -144,13 +212,14 @@ module _ (identifier : ℕ) (field : List ℕ) where
 
   -- ---- what is found in them
 
-  pub identifier-back : (ack : ℕ) → identifier < 2048 → identifierIn (frameBits ack) ≡ identifier
-  unfolding frameBits identifierIn header bits
-  identifier-back ack h = number-low 11 identifier ∙ mod-eq-of-lt h
+  pub identifier-back : (ack : ℕ) → Allowed identifier → identifierIn (frameBits ack) ≡ identifier
+  unfolding frameBits
+  identifier-back ack known = header-back identifier (length field) (dataBits ++ (checkBits ++ ending ack)) known
 
   pub field-back : (ack : ℕ) → Below 256 field → length field ≤ 8 → fieldIn (frameBits ack) ≡ field
   unfolding frameBits fieldIn
   field-back ack h few =
       let rest = checkBits ++ ending ack in
-      ap₂ (packed 8) (frame-dlc ack few) (drop-at headerBits (dataBits ++ rest) 19 (header-length identifier (length field)))
+      let size = header-length identifier (length field) ∙ sym (frame-data ack) in
+      ap₂ (packed 8) (frame-dlc ack few) (drop-at headerBits (dataBits ++ rest) (dataStart (frameBits ack)) size)
       ∙ packed-unpacked 8 field rest h

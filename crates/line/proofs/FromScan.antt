@@ -10,6 +10,7 @@ use Rattle.field.specs.Coded.{fieldFrom}
 use Rattle.decoding.specs.Decode.{decodeAnswer, payloadOf}
 use Rattle.decoding.specs.Number.{numberAnswer}
 use Rattle.decoding.proofs.NumberAnswers.{number-fits}
+use Rattle.frame.specs.declared.Identifier.{Identifier}
 use Rattle.scanning.specs.Scan.{identifierIn, dlcIn, Scanned, whole, stopped, scanned}
 use Rattle.scanning.specs.Held.{dataIn, heldIn}
 use Rattle.scanning.specs.declared.Held.the-variants as held
@@ -21,13 +22,13 @@ use Rattle.line.proofs.FrameOf.{field-there, data-fits}
 use Rattle.line.proofs.RoundTrip.{line-scanned}
 
 module _ (reading : Reading) (line : List ℕ) where
-  pub from-held : (identifier n v room : ℕ) → heldIn (scanned reading line) ≡ held.Frame identifier n v
+  pub from-held : (identifier : Identifier) (n v room : ℕ) → heldIn (scanned reading line) ≡ held.Frame n identifier v
       → (withIdentifier identifier (numberAnswer n v room) ≡ readAnswer reading line room) × (payloadOf (fieldFrom n v) ≡ payloadIn reading line)
   from-held identifier n v room e = go (scanned reading line) refl e
     where
-      go : (s : Scanned) → scanned reading line ≡ s → heldIn s ≡ held.Frame identifier n v
+      go : (s : Scanned) → scanned reading line ≡ s → heldIn s ≡ held.Frame n identifier v
           → (withIdentifier identifier (numberAnswer n v room) ≡ readAnswer reading line room) × (payloadOf (fieldFrom n v) ≡ payloadIn reading line)
-      go (stopped refusal) p q = let z : _≡_ {A = ℕ} 0 1 = cc in absurd (omega arith)
+      go (stopped met refusal) p q = let z : _≡_ {A = ℕ} 0 1 = cc in absurd (omega arith)
       go (whole frame) p q =
           let same : identifier ≡ identifierIn frame = cc in
           let bytes : n ≡ dlcIn frame = cc in
@@ -36,7 +37,7 @@ module _ (reading : Reading) (line : List ℕ) where
           let field : fieldFrom n v ≡ fieldIn frame = ap₂ fieldFrom bytes data-bits ∙ field-there reading frame right in
           let fits : v < 2 ^ (8 * n) = rw (bytes, data-bits) (data-fits reading frame right) in (
             ap (withIdentifier identifier) (number-fits n v room fits)
-                ∙ ap₂ (λ (i : ℕ) (l : List ℕ). withIdentifier i (decodeAnswer l room)) same field ∙ sym (read-whole reading line frame room p),
+                ∙ ap₂ (λ (i : Identifier) (l : List ℕ). withIdentifier i (decodeAnswer l room)) same field ∙ sym (read-whole reading line frame room p),
             ap payloadOf field ∙ sym (payload-whole reading line frame p),
           )
 
@@ -44,5 +45,5 @@ module _ (reading : Reading) (line : List ℕ) where
   from-refused room refusal e = go (scanned reading line) refl e
     where
       go : (s : Scanned) → scanned reading line ≡ s → heldIn s ≡ held.Refused refusal → readAnswer reading line room ≡ Refused refusal
-      go (stopped r) p q = read-stopped reading line room r p ∙ ap Refused cc
+      go (stopped met r) p q = read-stopped reading line room met r p ∙ ap Refused cc
       go (whole frame) p q = let z : _≡_ {A = ℕ} 0 1 = cc in absurd (omega arith)

@@ -1,6 +1,7 @@
 pub mod ReadAnswers
 pub mod FirstProblem
 pub mod ProblemMet
+pub mod BeforeIde
 pub mod Sound
 pub mod OnLine
 pub mod AckSlot

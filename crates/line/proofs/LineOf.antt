@@ -13,8 +13,8 @@ use Rattle.bits.specs.declared.Run.{Run}
 use Rattle.bits.specs.Stuffing.{nothingSent, stuffAfter, runAfter, stuffed}
 use Rattle.frame.specs.Line.{crcBits, stuffedRow, ending, lineOf}
 use Rattle.frame.proofs.LineParts.{crc-length}
-use Rattle.scanning.specs.Scan.{crcStart, stuffDue, runWith}
-use Rattle.scanning.proofs.Partial.{start-least, start-stays}
+use Rattle.scanning.specs.Scan.{headerWidth, dataStart, crcStart, stuffDue, runWith}
+use Rattle.scanning.proofs.Partial.{start-least, long-stays, start-stays}
 use Rattle.scanning.proofs.StuffDue.{due-within, due-past}
 use Rattle.line.specs.Ack.{withAck}
 use Rattle.line.proofs.OnLine.{dueBits, dueRun, onLine, lineFrom, no-stuff}
@@ -26,16 +26,17 @@ within frame = crcStart frame + 15
 
 module _ (run : Run) (frame l : List ℕ) where
   due-five : length frame ≤ within (frame ++ l) → stuffDue run frame ≡ eqb (run .count) 5
-  due-five h = due-within run frame (go (ltb (length frame) 19) refl)
+  due-five h = due-within run frame (go (ltb (length frame) (dataStart frame)) refl)
     where
-      go : (t : Bool) → ltb (length frame) 19 ≡ t → length frame ≤ within frame
-      go true e = omega (arith, ltb-true, start-least frame)
-      go false e = omega (arith, start-stays frame l (ltb-false (length frame) 19 e))
+      go : (t : Bool) → ltb (length frame) (dataStart frame) ≡ t → length frame ≤ within frame
+      go true e = omega (arith, ltb-true (length frame) (dataStart frame) e, start-least frame .1)
+      go false e = omega (arith, h, start-stays frame l (ltb-false (length frame) (dataStart frame) e))
 
   due-never : within (frame ++ l) < length frame → stuffDue run frame ≡ false
   due-never h =
-      let late : 19 ≤ length frame = omega (arith, start-least (frame ++ l)) in
-      due-past run frame (omega (arith, start-stays frame l late))
+      let least = start-least (frame ++ l) in
+      let same : dataStart (frame ++ l) ≡ dataStart frame = ap headerWidth (long-stays frame l (omega (arith, h, least .0))) in
+      due-past run frame (omega (arith, h, start-stays frame l (omega (arith, h, least .1, same))))
 
 stuff-within : (run : Run) (b : ℕ) (frame l : List ℕ) → length frame ≤ within (frame ++ l)
     → (dueBits (runWith run b) frame ≡ stuffAfter run b) × (dueRun (runWith run b) frame ≡ runAfter run b)

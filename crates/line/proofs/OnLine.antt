@@ -130,7 +130,7 @@ pub whole-sound : (reading : Reading) (run : Run) (frame line all : List ℕ) (p
 unfolding scan onLine frameWith runWith
 whole-sound reading run frame [] all place h e = go (complete frame) refl e
   where
-    go : (t : Bool) → complete frame ≡ t → cond t (whole frame) (stopped (LineLength place)) ≡ whole all → Taken reading run frame [] all
+    go : (t : Bool) → complete frame ≡ t → cond t (whole frame) (stopped place (LineLength place)) ≡ whole all → Taken reading run frame [] all
     go true c e =
         record {
           bits = [];
@@ -141,7 +141,7 @@ whole-sound reading run frame [] all place h e = go (complete frame) refl e
         }
     go false c e = let z : _≡_ {A = ℕ} 0 1 = cc in absurd (omega arith)
 whole-sound reading run frame (b ∷ line) all place h e =
-    let on = went-on (verdict reading run frame place b) _ all e in
+    let on = went-on place (verdict reading run frame place b) _ all e in
     go (stuffDue run frame) refl (λ f. whole-sound reading (runWith run b) f line all (place + 1)) (on .0) (on .1)
   where
     go : (t : Bool) → stuffDue run frame ≡ t

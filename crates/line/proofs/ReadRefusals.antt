@@ -1,11 +1,10 @@
 -- The refusals of a line. Assumes nothing.
 --     fieldNumbers, read-numbers    2 and 4 to 7, or those of its bits
 --     bits-refused     those of its bits come from these, whatever the room
+--     refused-there    and but for 13 they are met where they stand
 --     FieldRefused, field-refused    2 and 4 to 7 only where it is the line of a frame, with a bit in the ACK slot that the reading takes, whose
 --                      data field is refused so
 --     refused-field    and wherever it is
---     first-problem    a line that is refused for one of its bits is refused so whatever follows that bit
---     first-of-all     and nothing to the left of that bit is wrong
 --     cut-line         an accepted line, cut anywhere, is refused with 11 at its length
 --     longer-line      and with bits added, with 11 at the first of them
 use mathlib.Core.Path.{_≡_, refl, sym, ap, _∙_, subst}
@@ -25,6 +24,8 @@ use Rattle.refusals.proofs.Among.{among-apart}
 use Rattle.decoding.specs.Decode.{decodeAnswer}
 use Rattle.decoding.proofs.FieldParts.{LengthAllowed}
 use Rattle.decoding.proofs.DecodeGiven.{decode-numbers}
+use Rattle.frame.specs.declared.Identifier.{Identifier}
+use Rattle.frame.specs.Identifier.{Allowed}
 use Rattle.frame.specs.Line.{frameLine}
 use Rattle.scanning.specs.Scan.{identifierIn, slotMost, Scanned, whole, stopped, scanned}
 use Rattle.scanning.specs.declared.Reading.{Reading}
@@ -32,12 +33,12 @@ use Rattle.line.specs.Ack.{withAck}
 use Rattle.line.specs.Read.{fieldIn, withIdentifier, decoded, readAnswer}
 use Rattle.line.specs.declared.Line.the-variants.{Frame, Refused}
 use Rattle.line.proofs.ReadAnswers.{read-stopped}
-use Rattle.line.proofs.FirstProblem.{bitNumbers, OfBits, stopped-at, stopped-stays, cut-before, cut-short, made-longer}
+use Rattle.line.proofs.FirstProblem.{bitNumbers, OfBits, stopped-at, cut-short, made-longer}
 use Rattle.line.proofs.FrameOf.{identifier-few, field-bytes, bytes-below}
 use Rattle.line.proofs.RoundTrip.{read-frame, line-scanned}
 
 -- where the bits are right, what decoding refuses with
-from-field : (identifier : ℕ) (a : Answer) (refusal : Refusal) → withIdentifier identifier a ≡ Refused refusal → a ≡ answer.Refused refusal
+from-field : (identifier : Identifier) (a : Answer) (refusal : Refusal) → withIdentifier identifier a ≡ Refused refusal → a ≡ answer.Refused refusal
 from-field identifier (answer.Length n) refusal e = let z : _≡_ {A = ℕ} 0 1 = cc in absurd (omega arith)
 from-field identifier (answer.Refused r) refusal e = cc
 
@@ -55,8 +56,8 @@ module _ (reading : Reading) where
   -- the line of a frame whose data field decoding refuses so
   abbrev pub FieldRefused : List ℕ → ℕ → Refusal → Type 0
   FieldRefused line room refusal =
-      (identifier : ℕ) × (field : List ℕ) × (ack : ℕ) × (identifier ≤ 2047) × Below 256 field × (length field ≢ 1) × (length field ≤ 8)
-      × (ack ≤ slotMost (reading .slot)) × (line ≡ withAck ack (frameLine identifier field)) × (decodeAnswer field room ≡ answer.Refused refusal)
+      (identifier : Identifier) × (field : List ℕ) × (ack : ℕ) × Allowed identifier × Below 256 field
+      × (length field ≢ 1) × (length field ≤ 8) × (ack ≤ slotMost (reading .slot)) × (line ≡ withAck ack (frameLine identifier field)) × (decodeAnswer field room ≡ answer.Refused refusal)
 
   pub refused-field : (line : List ℕ) (room : ℕ) (refusal : Refusal) → FieldRefused line room refusal → readAnswer reading line room ≡ Refused refusal
   refused-field line room refusal (identifier, field, ack, known, bytes, not-one, few, slot, is, refused) =
@@ -83,23 +84,30 @@ module _ (reading : Reading) where
     read-numbers = go (scanned reading line) refl e
       where
         go : (s : Scanned) → scanned reading line ≡ s → decoded s room ≡ Refused refusal → OfBits refusal ⊎ Among fieldNumbers (numberOf refusal)
-        go (stopped r) d q = let same : r ≡ refusal = cc in inl (subst OfBits same (stopped-at reading line r d .own))
+        go (stopped met r) d q = let same : r ≡ refusal = cc in inl (subst OfBits same (stopped-at reading line met r d .stands .own))
         go (whole frame) d q = inr (numbers frame d q)
 
-    pub bits-refused : OfBits refusal → scanned reading line ≡ stopped refusal
+    pub bits-refused : OfBits refusal → (met : ℕ) × (scanned reading line ≡ stopped met refusal)
     unfolding readAnswer
     bits-refused own = go (scanned reading line) refl e
       where
-        go : (s : Scanned) → scanned reading line ≡ s → decoded s room ≡ Refused refusal → s ≡ stopped refusal
-        go (stopped r) d q = cc
+        go : (s : Scanned) → scanned reading line ≡ s → decoded s room ≡ Refused refusal → (met : ℕ) × (s ≡ stopped met refusal)
+        go (stopped met r) d q = (met, cc)
         go (whole frame) d q = absurd (one-kind refusal own (numbers frame d q))
+
+    pub refused-there : OfBits refusal → (numberOf refusal ≡ 13 → ⊥) → scanned reading line ≡ stopped (placeOf refusal) refusal
+    refused-there own other =
+        let stop = bits-refused own in
+        stop .1 ∙ ap (λ (k : ℕ). stopped k refusal) (sym (stopped-at reading line (stop .0) refusal (stop .1) .stands .there other))
 
     pub field-refused : (OfBits refusal → ⊥) → FieldRefused line room refusal
     unfolding readAnswer
     field-refused other = go (scanned reading line) refl e
       where
         go : (s : Scanned) → scanned reading line ≡ s → decoded s room ≡ Refused refusal → FieldRefused line room refusal
-        go (stopped r) d q = let same : r ≡ refusal = cc in absurd (other (subst OfBits same (stopped-at reading line r d .own)))
+        go (stopped met r) d q =
+            let same : r ≡ refusal = cc in
+            absurd (other (subst OfBits same (stopped-at reading line met r d .stands .own)))
         go (whole frame) d q =
             let scan = line-scanned reading line frame d in
             let may = allowed line frame d in (
@@ -115,42 +123,25 @@ module _ (reading : Reading) where
               decoding frame q,
             )
 
-    -- and nothing to the left of that bit is wrong
-    pub first-of-all : (k room′ : ℕ) → OfBits refusal → k < placeOf refusal → readAnswer reading (take k line) room′ ≡ Refused (LineLength k)
-    first-of-all k room′ own h =
-        read-stopped reading (take k line) room′ (LineLength k) (cut-before reading line refusal k (bits-refused own) h)
-
-    -- of 11 only where bits are too many
-    pub first-problem : (line′ : List ℕ) (room′ : ℕ) → OfBits refusal → (numberOf refusal ≡ 11 → placeOf refusal < length line)
-        → take (placeOf refusal + 1) line ≡ take (placeOf refusal + 1) line′ → readAnswer reading line′ room′ ≡ Refused refusal
-    first-problem line′ room′ own long same =
-        let stop = bits-refused own in
-        read-stopped reading line′ room′ refusal
-        (stopped-stays reading line line′ refusal stop (inside (stopped-at reading line refusal stop .inside)) same)
-      where
-        inside : (placeOf refusal < 0 + length line) ⊎ (refusal ≡ LineLength (0 + length line)) → placeOf refusal < length line
-        inside (inl h) = omega (arith, h)
-        inside (inr end) = long (ap numberOf end)
-
   -- ---- an accepted line
 
-  accepted-whole : (line : List ℕ) (room identifier n : ℕ) → readAnswer reading line room ≡ Frame identifier n
+  accepted-whole : (line : List ℕ) (room : ℕ) (identifier : Identifier) (n : ℕ) → readAnswer reading line room ≡ Frame n identifier
       → (frame : List ℕ) × (scanned reading line ≡ whole frame)
   unfolding readAnswer
   accepted-whole line room identifier n e = go (scanned reading line) refl e
     where
-      go : (s : Scanned) → scanned reading line ≡ s → decoded s room ≡ Frame identifier n → (frame : List ℕ) × (scanned reading line ≡ whole frame)
-      go (stopped r) d q = let z : _≡_ {A = ℕ} 0 1 = cc in absurd (omega arith)
+      go : (s : Scanned) → scanned reading line ≡ s → decoded s room ≡ Frame n identifier → (frame : List ℕ) × (scanned reading line ≡ whole frame)
+      go (stopped met r) d q = let z : _≡_ {A = ℕ} 0 1 = cc in absurd (omega arith)
       go (whole frame) d q = (frame, d)
 
-  pub cut-line : (line : List ℕ) (room room′ identifier n k : ℕ) → readAnswer reading line room ≡ Frame identifier n → k < length line
+  pub cut-line : (line : List ℕ) (room room′ : ℕ) (identifier : Identifier) (n k : ℕ) → readAnswer reading line room ≡ Frame n identifier → k < length line
       → readAnswer reading (take k line) room′ ≡ Refused (LineLength k)
   cut-line line room room′ identifier n k e h =
       let read = accepted-whole line room identifier n e in
-      read-stopped reading (take k line) room′ (LineLength k) (cut-short reading line (read .0) k (read .1) h)
+      read-stopped reading (take k line) room′ k (LineLength k) (cut-short reading line (read .0) k (read .1) h)
 
-  pub longer-line : (line : List ℕ) (room room′ identifier n bit : ℕ) (more : List ℕ) → readAnswer reading line room ≡ Frame identifier n
+  pub longer-line : (line : List ℕ) (room room′ : ℕ) (identifier : Identifier) (n bit : ℕ) (more : List ℕ) → readAnswer reading line room ≡ Frame n identifier
       → readAnswer reading (line ++ (bit ∷ more)) room′ ≡ Refused (LineLength (length line))
   longer-line line room room′ identifier n bit more e =
       let read = accepted-whole line room identifier n e in
-      read-stopped reading (line ++ (bit ∷ more)) room′ (LineLength (length line)) (made-longer reading line (read .0) bit more (read .1))
+      read-stopped reading (line ++ (bit ∷ more)) room′ (length line) (LineLength (length line)) (made-longer reading line (read .0) bit more (read .1))

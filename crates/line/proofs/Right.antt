@@ -5,7 +5,7 @@
 use mathlib.Core.Path.{_≡_, refl, sym, ap, _∙_}
 use mathlib.Core.Bool.{Bool, true, false, not, _&&_}
 use mathlib.Core.List.{List, [], _∷_, _++_, append-nil}
-use Prim.Native.Nat.{ℕ, suc, _+_, _≤_, _<_}
+use Prim.Native.Nat.{ℕ, suc, _+_, _-_, _≤_, _<_}
 use native.Mathlib.Omega.{arith}
 use lib.Dec.{eqb}
 use lib.ListN.{length, getD, take, drop, length-append, length-drop, take-append-drop, List·getD-append}
@@ -16,17 +16,18 @@ use Rattle.bits.specs.Rows.{number}
 use Rattle.bits.proofs.Below.{below-drop}
 use Rattle.crc.specs.Crc.{crc}
 use Rattle.scanning.specs.Form.{form}
-use Rattle.scanning.specs.Scan.{dlcIn, crcStart, complete, dlcRefused, crcRight, slotMost, slotRight}
+use Rattle.scanning.specs.Scan.{longIn, dataStart, headerWidth, dlcIn, crcStart, complete, dlcRefused, crcRight, slotMost, slotRight, formRight}
 use Rattle.scanning.specs.declared.Reading.{Reading}
 use Rattle.scanning.proofs.Verdicts.{dlc-taken, taken-dlc}
-use Rattle.scanning.proofs.Partial.{start-least, dlc-stays, start-stays, must-stays}
-use Rattle.line.proofs.Sound.{dlcWrong, crcWrong, slotWrong, Next, Sound}
+use Rattle.scanning.proofs.Partial.{width-least, start-least, long-stays, dlc-stays, start-stays, must-stays}
+use Rattle.line.proofs.Sound.{formWrong, dlcWrong, crcWrong, slotWrong, Next, Sound}
 use Rattle.line.proofs.Fits.{Fits, fits-at, at-fits}
 
 pub record Right (reading : Reading) (frame : List ℕ) : Type 0 where
   pub below : Below 2 frame
   pub long : length frame ≡ crcStart frame + 25
-  pub fits : Fits (form (dlcIn frame)) frame
+  pub fits : Fits (form (longIn frame) (dlcIn frame)) frame
+  pub same : getD frame 12 0 ≡ getD frame 13 0
   pub not-one : dlcIn frame ≡ 1 → ⊥
   pub at-most : dlcIn frame ≤ 8
   pub check : number 0 (take 15 (drop (crcStart frame) frame)) ≡ crc (take (crcStart frame) frame)
@@ -34,8 +35,8 @@ pub record Right (reading : Reading) (frame : List ℕ) : Type 0 where
 
 -- once the last CRC bit is read, so are all the bits before the CRC, and its own
 module _ (frame l : List ℕ) (h : length frame ≡ crcStart frame + 15) where
-  late : 19 ≤ length frame
-  late = omega (arith, start-least frame)
+  late : dataStart frame ≤ length frame
+  late = omega (arith, start-least frame .1)
 
   front-read : take (crcStart (frame ++ l)) (frame ++ l) ≡ take (crcStart frame) frame
   front-read =
@@ -52,17 +53,30 @@ module _ (frame l : List ℕ) (h : length frame ≡ crcStart frame + 15) where
 slot-read : (frame l : List ℕ) → length frame ≡ crcStart frame + 17
     → getD (frame ++ l) (crcStart (frame ++ l) + 16) 0 ≡ getD frame (crcStart frame + 16) 0
 slot-read frame l h =
-    ap (λ (n : ℕ). getD (frame ++ l) (n + 16) 0) (start-stays frame l (omega (arith, start-least frame)))
+    ap (λ (n : ℕ). getD (frame ++ l) (n + 16) 0) (start-stays frame l (omega (arith, start-least frame .1)))
     ∙ List·getD-append frame l 0 (crcStart frame + 16) (omega arith)
+
+-- and once IDE is read, it and the bit before it
+same-read : (frame l : List ℕ) → length frame ≡ 14 → (getD (frame ++ l) 12 0 ≡ getD frame 12 0) × (getD (frame ++ l) 13 0 ≡ getD frame 13 0)
+same-read frame l h = (List·getD-append frame l 0 12 (omega arith), List·getD-append frame l 0 13 (omega arith))
 
 -- ---- there
 
-dlc-right : (reading : Reading) (frame l : List ℕ) → Right reading (frame ++ l) → dlcWrong frame ≡ false
-dlc-right reading frame l right = go (eqb (length frame) 19) refl
+form-right : (reading : Reading) (frame l : List ℕ) → Right reading (frame ++ l) → formWrong frame ≡ false
+form-right reading frame l right = go (eqb (length frame) 14) refl
   where
-    go : (t : Bool) → eqb (length frame) 19 ≡ t → t && dlcRefused frame ≡ false
+    go : (t : Bool) → eqb (length frame) 14 ≡ t → t && not (formRight frame) ≡ false
     go true e =
-        let stays = dlc-stays frame l (omega (arith, eqb-true (length frame) 19 e)) in
+        let read = same-read frame l (eqb-true (length frame) 14 e) in
+        ap not (eq-eqb (getD frame 12 0) (getD frame 13 0) (sym (read .0) ∙ right .same ∙ read .1))
+    go false e = refl
+
+dlc-right : (reading : Reading) (frame l : List ℕ) → Right reading (frame ++ l) → dlcWrong frame ≡ false
+dlc-right reading frame l right = go (eqb (length frame) (dataStart frame)) refl
+  where
+    go : (t : Bool) → eqb (length frame) (dataStart frame) ≡ t → t && dlcRefused frame ≡ false
+    go true e =
+        let stays = dlc-stays frame l (omega (arith, eqb-true (length frame) (dataStart frame) e)) in
         dlc-taken frame (λ one. right .not-one (stays ∙ one)) (omega (arith, right .at-most, stays))
     go false e = refl
 
@@ -92,14 +106,16 @@ slot-right reading frame l right = go (eqb (length frame) (crcStart frame + 17))
 next-bit : (reading : Reading) (frame l : List ℕ) (b : ℕ) → Right reading (frame ++ (b ∷ l)) → Next reading frame b
 unfolding complete
 next-bit reading frame l b right =
+    let all = frame ++ (b ∷ l) in
     let longer : Right reading ((frame ++ (b ∷ [])) ++ l) = rw append-snoc right in
     let short : length frame < crcStart (frame ++ (b ∷ l)) + 25 = omega (arith, right .long, length-append frame (b ∷ l)) in
     record {
       below = rw drop-append-seam at (below-drop 2 (length frame) (frame ++ (b ∷ l)) (right .below)) .0;
       more =
           ne-eqb (length frame) (crcStart frame + 25)
-          (λ e. omega (arith, start-stays frame (b ∷ l) (omega (arith, start-least frame))));
-      fitting = rw (must-stays frame (b ∷ l)) (fits-at (form (dlcIn (frame ++ (b ∷ l)))) frame l b (right .fits));
+          (λ e. omega (arith, start-stays frame (b ∷ l) (omega (arith, start-least frame .1))));
+      fitting = rw (must-stays frame (b ∷ l)) (fits-at (form (longIn all) (dlcIn all)) frame l b (right .fits));
+      form = form-right reading (frame ++ (b ∷ [])) l longer;
       dlc = dlc-right reading (frame ++ (b ∷ [])) l longer;
       check = crc-right reading (frame ++ (b ∷ [])) l longer;
       slot = slot-right reading (frame ++ (b ∷ [])) l longer;
@@ -136,30 +152,61 @@ right-crc frame l h e =
     ∙ eqb-true (number 0 (drop start frame)) (crc (take start frame)) holds
     ∙ sym (ap crc (front-read frame l h))
 
+-- the first bits of a frame, the header among them
+module _ (all : List ℕ) (k : ℕ) (read : dataStart all ≤ k) (enough : k ≤ length all) where
+  early-long : length (take k all) ≡ k
+  early-long = length-take-le k all enough
+
+  early-data : dataStart all ≡ dataStart (take k all)
+  early-data =
+      ap (λ (l : List ℕ). dataStart l) (sym (take-append-drop k all))
+      ∙ ap headerWidth (long-stays (take k all) (drop k all) (omega (arith, early-long, read, width-least (longIn all))))
+
+  early-read : dataStart (take k all) ≤ length (take k all)
+  early-read = omega (arith, early-long, early-data, read)
+
+  early-dlc : dlcIn all ≡ dlcIn (take k all)
+  early-dlc = ap dlcIn (sym (take-append-drop k all)) ∙ dlc-stays (take k all) (drop k all) early-read
+
+  early-start : crcStart all ≡ crcStart (take k all)
+  early-start = ap crcStart (sym (take-append-drop k all)) ∙ start-stays (take k all) (drop k all) early-read
+
 module _ (reading : Reading) (all : List ℕ) (sound : Sound reading [] all) where
-  sound-fits : Fits (form (dlcIn all)) all
+  sound-fits : Fits (form (longIn all) (dlcIn all)) all
   sound-fits =
-      at-fits (form (dlcIn all)) all
+      at-fits (form (longIn all) (dlcIn all)) all
       (λ g m b e. rw (← e, ← must-stays g (b ∷ m)) (sound-at reading [] g m b (rw e sound) .fitting))
 
-  -- the tests once the bit at a position is among the frame's
-  tests-at : (i : ℕ) → i < length all
-      → (dlcWrong (take (suc i) all) ≡ false) × (crcWrong (take (suc i) all) ≡ false) × (slotWrong reading (take (suc i) all) ≡ false)
-  tests-at i h =
-      let next = sound-at reading [] (take i all) (drop (suc i) all) (getD all i 0) (rw (← split-at all i 0 h) sound) in
-      rw (take-suc all i 0 h) (next .dlc, next .check, next .slot)
+  -- once the bit at a position is among the frame's
+  next-at : (i : ℕ) → i < length all → Next reading (take i all) (getD all i 0)
+  next-at i h = sound-at reading [] (take i all) (drop (suc i) all) (getD all i 0) (rw (← split-at all i 0 h) sound)
 
   sound-long : length all ≡ crcStart all + 25
   unfolding complete
   sound-long = eqb-true (length all) (crcStart all + 25) (sound-complete reading [] all sound)
 
+  sound-same : getD all 12 0 ≡ getD all 13 0
+  sound-same =
+      let early = take 14 all in
+      let enough : 14 ≤ length all = omega (arith, sound-long, start-least all .0) in
+      let long : length early ≡ 14 = length-take-le 14 all enough in
+      let fine : formWrong early ≡ false = rw (take-suc all 13 0 enough) (next-at 13 enough .form) in
+      let holds = not-false (formRight early) (rw (eq-eqb (length early) 14 long) at fine) in
+      let read = rw (take-append-drop 14 all) at (same-read early (drop 14 all) long) in
+      read .0 ∙ eqb-true (getD early 12 0) (getD early 13 0) holds ∙ sym (read .1)
+
   sound-dlc : (dlcIn all ≡ 1 → ⊥) × (dlcIn all ≤ 8)
   sound-dlc =
-      let early = take 19 all in
-      let enough : 19 ≤ length all = omega (arith, sound-long, start-least all) in
-      let long : length early ≡ 19 = length-take-le 19 all enough in
-      let stays : dlcIn all ≡ dlcIn early = ap dlcIn (sym (take-append-drop 19 all)) ∙ dlc-stays early (drop 19 all) (omega arith) in
-      let taken = taken-dlc early (rw (eq-eqb (length early) 19 long) at (tests-at 18 enough .0)) in
+      let i = dataStart all - 1 in
+      let early = take (dataStart all) all in
+      let enough : dataStart all ≤ length all = omega (arith, sound-long, start-least all .1) in
+      let count : suc i ≡ dataStart all = omega (arith, width-least (longIn all)) in
+      let inside : i < length all = omega (arith, enough, count) in
+      let fine : dlcWrong (take (suc i) all) ≡ false = rw (take-suc all i 0 inside) (next-at i inside .dlc) in
+      let here : length early ≡ dataStart early
+      = early-long all (dataStart all) (omega arith) enough ∙ early-data all (dataStart all) (omega arith) enough in
+      let stays = early-dlc all (dataStart all) (omega arith) enough in
+      let taken = taken-dlc early (rw (eq-eqb (length early) (dataStart early) here) at (rw count at fine)) in
       (λ one. taken .0 (sym stays ∙ one), omega (arith, taken .1, stays))
 
   sound-check : number 0 (take 15 (drop (crcStart all) all)) ≡ crc (take (crcStart all) all)
@@ -167,24 +214,21 @@ module _ (reading : Reading) (all : List ℕ) (sound : Sound reading [] all) whe
       let i = crcStart all + 14 in
       let early = take (suc i) all in
       let enough : i < length all = omega (arith, sound-long) in
-      let long : length early ≡ suc i = length-take-le (suc i) all enough in
-      let joined = take-append-drop (suc i) all in
-      let stays : crcStart all ≡ crcStart early
-      = ap crcStart (sym joined) ∙ start-stays early (drop (suc i) all) (omega (arith, start-least all)) in
-      rw joined at (right-crc early (drop (suc i) all) (omega arith) (tests-at i enough .1))
+      let read : dataStart all ≤ suc i = omega (arith, start-least all .1) in
+      let here : length early ≡ crcStart early + 15 = omega (arith, early-long all (suc i) read enough, early-start all (suc i) read enough) in
+      let fine : crcWrong early ≡ false = rw (take-suc all i 0 enough) (next-at i enough .check) in
+      rw (take-append-drop (suc i) all) at (right-crc early (drop (suc i) all) here fine)
 
   sound-slot : getD all (crcStart all + 16) 0 ≤ slotMost (reading .slot)
   sound-slot =
       let i = crcStart all + 16 in
       let early = take (suc i) all in
       let enough : i < length all = omega (arith, sound-long) in
-      let long : length early ≡ suc i = length-take-le (suc i) all enough in
-      let joined = take-append-drop (suc i) all in
-      let stays : crcStart all ≡ crcStart early
-      = ap crcStart (sym joined) ∙ start-stays early (drop (suc i) all) (omega (arith, start-least all)) in
-      let here : length early ≡ crcStart early + 17 = omega arith in
-      let may = not-false (slotRight reading early) (rw (eq-eqb (length early) (crcStart early + 17) here) at (tests-at i enough .2)) in
-      let same = ap (λ (l : List ℕ). getD l (crcStart l + 16) 0) (sym joined) ∙ slot-read early (drop (suc i) all) here in
+      let read : dataStart all ≤ suc i = omega (arith, start-least all .1) in
+      let here : length early ≡ crcStart early + 17 = omega (arith, early-long all (suc i) read enough, early-start all (suc i) read enough) in
+      let fine : slotWrong reading early ≡ false = rw (take-suc all i 0 enough) (next-at i enough .slot) in
+      let may = not-false (slotRight reading early) (rw (eq-eqb (length early) (crcStart early + 17) here) at fine) in
+      let same = ap (λ (l : List ℕ). getD l (crcStart l + 16) 0) (sym (take-append-drop (suc i) all)) ∙ slot-read early (drop (suc i) all) here in
       omega (arith, same, leb-true (getD early (crcStart early + 16) 0) (slotMost (reading .slot)) may)
 
 pub sound-right : (reading : Reading) (frame : List ℕ) → Sound reading [] frame → Right reading frame
@@ -194,6 +238,7 @@ sound-right reading frame sound =
       below = sound-below reading [] frame sound;
       long = sound-long reading frame sound;
       fits = sound-fits reading frame sound;
+      same = sound-same reading frame sound;
       not-one = dlc .0;
       at-most = dlc .1;
       check = sound-check reading frame sound;

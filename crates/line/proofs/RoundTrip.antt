@@ -10,7 +10,9 @@
 --     coded-is-accepted    and each such line is accepted where the payload has room
 --     coded-apart     of which it is the line, the ACK slot apart
 --     one-line        accepted lines that give one identifier and one payload are one, but for the bit in the ACK slot
-use mathlib.Core.Path.{_≡_, refl, sym, ap, ap₂, _∙_}
+--     line-tells      a made line, whatever stands in its ACK slot, tells identifier, payload and that bit
+--     forms-apart     so no line of the base form is one of the long form
+use mathlib.Core.Path.{_≡_, refl, sym, ap, ap₂, _∙_, subst}
 use mathlib.Core.List.{List, []}
 use Prim.Native.Nat.{ℕ, _-_, _≤_}
 use native.Mathlib.Omega.{arith}
@@ -26,11 +28,14 @@ use Rattle.field.proofs.FieldBits.{field-length, field-below}
 use Rattle.decoding.specs.Decode.{decodeAnswer}
 use Rattle.decoding.proofs.Accepted.{accepted}
 use Rattle.decoding.proofs.RoundTrip.{decode-encode, payload-of-field, field-of-payload}
+use Rattle.frame.specs.declared.Identifier.{Identifier}
+use Rattle.frame.specs.declared.Identifier.the-variants.{Base, Long}
+use Rattle.frame.specs.Identifier.{Allowed}
 use Rattle.frame.specs.Line.{frameLine}
 use Rattle.frame.specs.Answers.{payloadLine}
 use Rattle.scanning.specs.Scan.{identifierIn, slotMost, Scanned, whole, stopped, scanned}
 use Rattle.scanning.specs.declared.Reading.{Reading}
-use Rattle.line.specs.Read.{fieldIn, withIdentifier, decoded, readAnswer, payloadIn}
+use Rattle.line.specs.Read.{own, fieldIn, withIdentifier, decoded, readAnswer, payloadIn}
 use Rattle.line.specs.Ack.{withAck}
 use Rattle.line.specs.declared.Line.the-variants.{Frame}
 use Rattle.line.proofs.OnLine.{lineFrom, sound-whole, whole-sound}
@@ -41,21 +46,21 @@ use Rattle.line.proofs.FrameBits.{headerBits, dataBits, frameBits, fram
 use Rattle.line.proofs.FrameOf.{right-frame, identifier-few, field-bytes, bytes-below}
 
 -- the line of a frame's bits
-frame-line : (identifier : ℕ) (field : List ℕ) (ack : ℕ) → length field ≤ 8
+frame-line : (identifier : Identifier) (field : List ℕ) (ack : ℕ) → length field ≤ 8
     → lineFrom nothingSent [] (frameBits identifier field ack) ≡ withAck ack (frameLine identifier field)
 unfolding frameBits frameLine
 frame-line identifier field ack few =
     line-of (headerBits identifier field) (dataBits identifier field) ack (sym (frame-start identifier field ack few))
 
-pub own-ack : (identifier : ℕ) (payload : List ℕ) → withAck 1 (payloadLine identifier payload) ≡ payloadLine identifier payload
+pub own-ack : (identifier : Identifier) (payload : List ℕ) → withAck 1 (payloadLine identifier payload) ≡ payloadLine identifier payload
 unfolding frameLine
 own-ack identifier payload = let field = fieldOf payload in line-own (headerBits identifier field) (dataBits identifier field)
 
-pub slot-apart : (identifier : ℕ) (field : List ℕ) (ack : ℕ) → withAck 1 (withAck ack (frameLine identifier field)) ≡ frameLine identifier field
+pub slot-apart : (identifier : Identifier) (field : List ℕ) (ack : ℕ) → withAck 1 (withAck ack (frameLine identifier field)) ≡ frameLine identifier field
 unfolding frameLine
 slot-apart identifier field ack = ack-again (headerBits identifier field) (dataBits identifier field) ack
 
-pub slot-holds : (identifier : ℕ) (field : List ℕ) (ack : ℕ) →
+pub slot-holds : (identifier : Identifier) (field : List ℕ) (ack : ℕ) →
     let line = withAck ack (frameLine identifier field) in
     getD line (length line - 9) 0 ≡ ack
 unfolding frameLine
@@ -64,7 +69,7 @@ slot-holds identifier field ack = ack-holds (headerBits identifier field) (dataB
 -- ---- made, then read
 
 module _ (reading : Reading) where
-  frame-scanned : (identifier : ℕ) (field : List ℕ) (ack : ℕ) → length field ≤ 8 → (length field ≡ 1 → ⊥) → ack ≤ slotMost (reading .slot)
+  frame-scanned : (identifier : Identifier) (field : List ℕ) (ack : ℕ) → length field ≤ 8 → (length field ≡ 1 → ⊥) → ack ≤ slotMost (reading .slot)
       → scanned reading (withAck ack (frameLine identifier field)) ≡ whole (frameBits identifier field ack)
   unfolding scanned
   frame-scanned identifier field ack few not-one h =
@@ -72,21 +77,21 @@ module _ (reading : Reading) where
       rw (← frame-line identifier field ack few)
       (sound-whole reading nothingSent [] all 0 (right-sound reading [] all (frame-right identifier field reading ack few not-one h)))
 
-  pub read-frame : (identifier : ℕ) (field : List ℕ) (ack room : ℕ)
-      → identifier ≤ 2047 → Below 256 field → length field ≤ 8 → (length field ≡ 1 → ⊥) → ack ≤ slotMost (reading .slot)
+  pub read-frame : (identifier : Identifier) (field : List ℕ) (ack room : ℕ)
+      → Allowed identifier → Below 256 field → length field ≤ 8 → (length field ≡ 1 → ⊥) → ack ≤ slotMost (reading .slot)
       → readAnswer reading (withAck ack (frameLine identifier field)) room ≡ withIdentifier identifier (decodeAnswer field room)
   unfolding readAnswer
   read-frame identifier field ack room known bytes few not-one h =
       rw (
         frame-scanned identifier field ack few not-one h,
         field-back identifier field ack bytes few,
-        identifier-back identifier field ack (omega arith),
+        identifier-back identifier field ack known,
       )
 
-  pub read-made : (identifier : ℕ) (payload : List ℕ) (ack room : ℕ)
-      → identifier ≤ 2047 → Below 256 payload → length payload ≤ 7 → length payload ≤ room → ack ≤ slotMost (reading .slot) →
+  pub read-made : (identifier : Identifier) (payload : List ℕ) (ack room : ℕ)
+      → Allowed identifier → Below 256 payload → length payload ≤ 7 → length payload ≤ room → ack ≤ slotMost (reading .slot) →
       let line = withAck ack (payloadLine identifier payload) in
-      (readAnswer reading line room ≡ Frame identifier (length payload)) × (payloadIn reading line ≡ payload)
+      (readAnswer reading line room ≡ Frame (length payload) identifier) × (payloadIn reading line ≡ payload)
   unfolding payloadIn
   read-made identifier payload ack room known bytes short fits h =
       let field = fieldOf payload in
@@ -99,16 +104,16 @@ module _ (reading : Reading) where
             (payload-of-field payload bytes short),
       )
 
-  pub coded-is-accepted : (line : List ℕ) (room identifier : ℕ) (payload : List ℕ) (ack : ℕ) → line ≡ withAck ack (payloadLine identifier payload)
-      → ack ≤ slotMost (reading .slot) → identifier ≤ 2047 → Below 256 payload → length payload ≤ 7 → length payload ≤ room
-      → readAnswer reading line room ≡ Frame identifier (length payload)
+  pub coded-is-accepted : (line : List ℕ) (room : ℕ) (identifier : Identifier) (payload : List ℕ) (ack : ℕ) → line ≡ withAck ack (payloadLine identifier payload)
+      → ack ≤ slotMost (reading .slot) → Allowed identifier → Below 256 payload → length payload ≤ 7 → length payload ≤ room
+      → readAnswer reading line room ≡ Frame (length payload) identifier
   coded-is-accepted line room identifier payload ack is h known bytes short fits =
       ap (λ (l : List ℕ). readAnswer reading l room) is ∙ read-made identifier payload ack room known bytes short fits h .0
 
   -- ---- read, then made
 
-  pub record Coded (line : List ℕ) (room identifier n : ℕ) : Type 0 where
-    pub known : identifier ≤ 2047
+  pub record Coded (line : List ℕ) (room : ℕ) (identifier : Identifier) (n : ℕ) : Type 0 where
+    pub known : Allowed identifier
     pub length-is : length (payloadIn reading line) ≡ n
     pub short : n ≤ 7
     pub fits : n ≤ room
@@ -137,7 +142,7 @@ module _ (reading : Reading) where
         taken .line-below,
       )
 
-  whole-coded : (line frame : List ℕ) (room identifier n : ℕ) → scanned reading line ≡ whole frame
+  whole-coded : (line frame : List ℕ) (room : ℕ) (identifier : Identifier) (n : ℕ) → scanned reading line ≡ whole frame
       → identifierIn frame ≡ identifier → decodeAnswer (fieldIn frame) room ≡ answer.Length n → Coded line room identifier n
   unfolding payloadIn
   whole-coded line frame room identifier n e is d =
@@ -145,7 +150,7 @@ module _ (reading : Reading) where
       let field = accepted (fieldIn frame) room n d in
       let back = field-of-payload (fieldIn frame) room n (bytes-below reading frame (scan .0)) d in
       record {
-        known = omega (arith, identifier-few reading frame (scan .0));
+        known = subst (λ (i : Identifier). Allowed i) is (identifier-few reading frame (scan .0));
         length-is = rw e (back .1);
         short = back .2;
         fits = omega (arith, field .size-is, field .begun .fits);
@@ -156,30 +161,52 @@ module _ (reading : Reading) where
         line-below = scan .2;
       }
 
-  with-identifier : (i identifier n : ℕ) (a : Answer) → withIdentifier i a ≡ Frame identifier n
+  with-identifier : (i identifier : Identifier) (n : ℕ) (a : Answer) → withIdentifier i a ≡ Frame n identifier
       → (i ≡ identifier) × (a ≡ answer.Length n)
   with-identifier i identifier n (answer.Length m) e = (cc, cc)
   with-identifier i identifier n (answer.Refused refusal) e = let z : _≡_ {A = ℕ} 0 1 = cc in absurd (omega arith)
 
-  pub accepted-is-coded : (line : List ℕ) (room identifier n : ℕ) → readAnswer reading line room ≡ Frame identifier n → Coded line room identifier n
+  pub accepted-is-coded : (line : List ℕ) (room : ℕ) (identifier : Identifier) (n : ℕ) → readAnswer reading line room ≡ Frame n identifier → Coded line room identifier n
   unfolding readAnswer
   accepted-is-coded line room identifier n e = go (scanned reading line) refl e
     where
-      go : (s : Scanned) → scanned reading line ≡ s → decoded s room ≡ Frame identifier n → Coded line room identifier n
-      go (stopped refusal) p q = let z : _≡_ {A = ℕ} 0 1 = cc in absurd (omega arith)
+      go : (s : Scanned) → scanned reading line ≡ s → decoded s room ≡ Frame n identifier → Coded line room identifier n
+      go (stopped met refusal) p q = let z : _≡_ {A = ℕ} 0 1 = cc in absurd (omega arith)
       go (whole frame) p q =
           let is = with-identifier (identifierIn frame) identifier n (decodeAnswer (fieldIn frame) room) q in
           whole-coded line frame room identifier n p (is .0) (is .1)
 
 -- the line of a frame, the ACK slot apart
-pub coded-apart : (reading : Reading) (line : List ℕ) (room identifier n : ℕ) → Coded reading line room identifier n
+pub coded-apart : (reading : Reading) (line : List ℕ) (room : ℕ) (identifier : Identifier) (n : ℕ) → Coded reading line room identifier n
     → withAck 1 line ≡ payloadLine identifier (payloadIn reading line)
 coded-apart reading line room identifier n coded =
     ap (withAck 1) (coded .line-is) ∙ slot-apart identifier (fieldOf (payloadIn reading line)) (coded .ack)
 
-pub one-line : (reading other : Reading) (line line′ : List ℕ) (room room′ identifier n n′ : ℕ)
-    → readAnswer reading line room ≡ Frame identifier n → readAnswer other line′ room′ ≡ Frame identifier n′
+pub one-line : (reading other : Reading) (line line′ : List ℕ) (room room′ : ℕ) (identifier : Identifier) (n n′ : ℕ)
+    → readAnswer reading line room ≡ Frame n identifier → readAnswer other line′ room′ ≡ Frame n′ identifier
     → payloadIn reading line ≡ payloadIn other line′ → withAck 1 line ≡ withAck 1 line′
 one-line reading other line line′ room room′ identifier n n′ e e′ same =
     coded-apart reading line room identifier n (accepted-is-coded reading line room identifier n e) ∙ ap (payloadLine identifier) same
     ∙ sym (coded-apart other line′ room′ identifier n′ (accepted-is-coded other line′ room′ identifier n′ e′))
+
+pub line-tells : (i j : Identifier) (p q : List ℕ) (a b : ℕ) → Allowed i → Allowed j
+    → Below 256 p → Below 256 q → length p ≤ 7 → length q ≤ 7
+    → withAck a (payloadLine i p) ≡ withAck b (payloadLine j q) → (i ≡ j) × (p ≡ q) × (a ≡ b)
+line-tells i j p q a b known known′ bytes bytes′ short short′ e =
+    let made = sym (slot-apart i (fieldOf p) a) ∙ ap (withAck 1) e ∙ slot-apart j (fieldOf q) b in
+    let line = ap (withAck 1) made in
+    let first = read-made own i p 1 7 known bytes short short (omega arith) in
+    let second = read-made own j q 1 7 known′ bytes′ short′ short′ (omega arith) in
+    let same : Frame (length p) i ≡ Frame (length q) j = sym (first .0) ∙ ap (λ (l : List ℕ). readAnswer own l 7) line ∙ second .0 in (
+      cc,
+      sym (first .1) ∙ ap (payloadIn own) line ∙ second .1,
+      sym (slot-holds i (fieldOf p) a) ∙ ap (λ (l : List ℕ). getD l (length l - 9) 0) e ∙ slot-holds j (fieldOf q) b,
+    )
+
+pub forms-apart : (x y : ℕ) (p q : List ℕ) (a b : ℕ) → x ≤ 2047 → y ≤ 536870911
+    → Below 256 p → Below 256 q → length p ≤ 7 → length q ≤ 7
+    → withAck a (payloadLine (Base x) p) ≡ withAck b (payloadLine (Long y) q) → ⊥
+forms-apart x y p q a b known known′ bytes bytes′ short short′ e =
+    let same : Base x ≡ Long y = line-tells (Base x) (Long y) p q a b known known′ bytes bytes′ short short′ e .0 in
+    let z : _≡_ {A = ℕ} 0 1 = cc in
+    omega arith

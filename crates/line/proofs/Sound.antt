@@ -1,5 +1,5 @@
 -- The bits with which a scan finds no fault. Assumes nothing.
---     dlcWrong, crcWrong, slotWrong    the tests behind 3, 12 and 20, of a frame's bits so far
+--     formWrong, dlcWrong, crcWrong, slotWrong    the tests behind 13 at the bit before IDE, 3, 12 and 20, of a frame's bits so far
 --     Next            a frame's bits so far may go on with this bit
 --     Sound           and with these bits, which make it complete
 --     bit-right, right-bit       where no stuff bit is due, the scan finds no fault with these bits, and with no others
@@ -16,13 +16,16 @@ use borrow.Author.Tests.{ltb-false, eqb-true, eqb-false}
 use Rattle.bits.specs.declared.Run.{Run}
 use Rattle.refusals.specs.declared.Refusal.{Refusal}
 use Rattle.scanning.specs.Form.{fits}
-use Rattle.scanning.specs.Scan.{crcStart, complete, stuffDue, mustBe, dlcRefused, crcRight, slotRight, shown, Verdict, right, wrong, verdict}
+use Rattle.scanning.specs.Scan.{dataStart, crcStart, complete, stuffDue, mustBe, dlcRefused, crcRight, slotRight, formRight, shown, Verdict, right, wrong, verdict}
 use Rattle.scanning.specs.declared.Reading.{Reading}
 use Rattle.scanning.proofs.StuffDue.{due-past}
 use Rattle.scanning.proofs.Verdicts.{stuff-bit, frame-bit}
 
+abbrev pub formWrong : List ℕ → Bool
+formWrong frame = eqb (length frame) 14 && not (formRight frame)
+
 abbrev pub dlcWrong : List ℕ → Bool
-dlcWrong frame = eqb (length frame) 19 && dlcRefused frame
+dlcWrong frame = eqb (length frame) (dataStart frame) && dlcRefused frame
 
 abbrev pub crcWrong : List ℕ → Bool
 crcWrong frame = eqb (length frame) (crcStart frame + 15) && not (crcRight frame)
@@ -34,6 +37,7 @@ pub record Next (reading : Reading) (frame : List ℕ) (bit : ℕ) : Type 0 wher
   pub below : bit < 2
   pub more : complete frame ≡ false
   pub fitting : fits (mustBe frame) bit ≡ true
+  pub form : formWrong (frame ++ (bit ∷ [])) ≡ false
   pub dlc : dlcWrong (frame ++ (bit ∷ [])) ≡ false
   pub check : crcWrong (frame ++ (bit ∷ [])) ≡ false
   pub slot : slotWrong reading (frame ++ (bit ∷ [])) ≡ false
@@ -57,12 +61,14 @@ module _ (reading : Reading) (run : Run) (frame : List ℕ) (place bit : ℕ) wh
       let more = passed (complete frame) _ _ e in
       let low = passed (ltb 1 bit) _ _ (more .1) in
       let may = passed (not (fits (mustBe frame) bit)) _ _ (rw due at (low .1)) in
-      let dlc = passed (dlcWrong (frame ++ (bit ∷ []))) _ _ (may .1) in
+      let form = passed (formWrong (frame ++ (bit ∷ []))) _ _ (may .1) in
+      let dlc = passed (dlcWrong (frame ++ (bit ∷ []))) _ _ (form .1) in
       let check = passed (crcWrong (frame ++ (bit ∷ []))) _ _ (dlc .1) in
       record {
         below = omega (arith, ltb-false 1 bit (low .0));
         more = more .0;
         fitting = not-false (fits (mustBe frame) bit) (may .0);
+        form = form .0;
         dlc = dlc .0;
         check = check .0;
         slot = passed (slotWrong reading (frame ++ (bit ∷ []))) _ _ (check .1) .0;
@@ -72,7 +78,7 @@ module _ (reading : Reading) (run : Run) (frame : List ℕ) (place bit : ℕ) wh
   unfolding shown
   right-bit due next =
       frame-bit reading run frame place bit (next .more) (omega (arith, next .below)) due (next .fitting)
-      ∙ simp (next .dlc, next .check, next .slot)
+      ∙ simp (next .form, next .dlc, next .check, next .slot)
 
   pub stuff-right : stuffDue run frame ≡ true → verdict reading run frame place bit ≡ right → (bit < 2) × (bit ≡ run .bit → ⊥)
   unfolding verdict

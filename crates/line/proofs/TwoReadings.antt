@@ -20,16 +20,16 @@ use Rattle.bits.specs.Stuffing.{nothingSent}
 use Rattle.refusals.specs.declared.Refusal.{Refusal}
 use Rattle.refusals.specs.declared.Refusal.the-variants.{FieldLength, LineByte, StuffBit, LineLength, Crc, FixedBit, NotAcknowledged}
 use Rattle.scanning.specs.Form.{fits}
-use Rattle.scanning.specs.Scan.{crcStart, complete, stuffDue, mustBe, slotMost, slotRight, Verdict, right, wrong, shown, verdict, runWith, frameWith, runBehind, frameBehind, Scanned, whole, stopped, onward, scan, scanned}
+use Rattle.scanning.specs.Scan.{headerWidth, dataStart, crcStart, complete, stuffDue, mustBe, slotMost, slotRight, beforeIde, Verdict, right, wrong, shown, verdict, runWith, frameWith, runBehind, frameBehind, Scanned, whole, stopped, onward, scan, scanned}
 use Rattle.scanning.specs.declared.Reading.{Reading}
-use Rattle.scanning.proofs.Partial.{start-least, start-stays}
+use Rattle.scanning.proofs.Partial.{start-least, long-stays, start-stays}
 use Rattle.line.specs.Read.{acknowledged, own, decoded, readAnswer, carried, payloadIn}
 use Rattle.line.specs.declared.Line.{Line}
 use Rattle.line.specs.declared.Line.the-variants.{Refused}
-use Rattle.line.proofs.Sound.{dlcWrong, crcWrong, slotWrong}
+use Rattle.line.proofs.Sound.{formWrong, dlcWrong, crcWrong, slotWrong}
 use Rattle.line.proofs.FirstProblem.{twenty}
 use Rattle.line.proofs.ProblemMet.{problem-met, right-before}
-use Rattle.line.proofs.ReadRefusals.{bits-refused}
+use Rattle.line.proofs.ReadRefusals.{refused-there}
 
 -- ---- a bit
 
@@ -37,6 +37,9 @@ use Rattle.line.proofs.ReadRefusals.{bits-refused}
 module _ (run : Run) (frame : List ℕ) (place b : ℕ) where
   abbrev with : List ℕ
   with = frame ++ (b ∷ [])
+
+  abbrev early : ℕ
+  early = beforeIde (runWith run b) place
 
   slot-bit : length with ≡ crcStart with + 17 → getD with (crcStart with + 16) 0 ≡ b
   slot-bit e =
@@ -77,7 +80,8 @@ module _ (run : Run) (frame : List ℕ) (place b : ℕ) where
         let byte = other (ltb 1 b) (LineByte place) _ (λ d. let z : _≡_ {A = ℕ} 0 1 = cc in omega arith) more in
         let bit = no-stuff (stuffDue run frame) (eqb b (run .bit)) _ byte in
         let fixed = other (not (fits (mustBe frame) b)) (FixedBit place) _ (λ d. let z : _≡_ {A = ℕ} 0 1 = cc in omega arith) bit in
-        let dlc = other (dlcWrong with) (FieldLength place) _ (λ d. let z : _≡_ {A = ℕ} 0 1 = cc in omega arith) fixed in
+        let form = other (formWrong with) (FixedBit early) _ (λ d. let z : _≡_ {A = ℕ} 0 1 = cc in omega arith) fixed in
+        let dlc = other (dlcWrong with) (FieldLength place) _ (λ d. let z : _≡_ {A = ℕ} 0 1 = cc in omega arith) form in
         let check = other (crcWrong with) (Crc place) _ (λ d. let z : _≡_ {A = ℕ} 0 1 = cc in omega arith) dlc in
         let slot = at-slot (slotWrong reading with) check in
         let tests = both (eqb (length with) (crcStart with + 17)) (slotRight reading with) (slot .0) in
@@ -85,22 +89,26 @@ module _ (run : Run) (frame : List ℕ) (place b : ℕ) where
         let over = leb-false (getD with (crcStart with + 16) 0) (slotMost (reading .slot)) (tests .1) in
         let is = slot-bit here in
         let one = length-append frame (b ∷ []) in
-        let stays = start-stays frame (b ∷ []) (omega (arith, start-least with)) in
+        let least = start-least with in
+        let same : dataStart with ≡ dataStart frame = ap headerWidth (long-stays frame (b ∷ []) (omega (arith, here, one, least .0))) in
+        let stays = start-stays frame (b ∷ []) (omega (arith, here, one, least .1, same)) in
         (slot .1, omega (arith, over, is), omega (arith, over, is), omega (arith, here, one, stays))
 
   -- whichever way the other tests go
-  tests-same : (t a c d e f g h : Bool) →
+  tests-same : (t a c d e i f g h : Bool) →
       let v : Bool → Verdict = λ s. cond a (wrong (LineLength place)) (cond t (wrong (LineByte place)) (cond c (cond d (wrong (StuffBit place)) right)
-      (cond e (wrong (FixedBit place)) (cond f (wrong (FieldLength place)) (cond g (wrong (Crc place)) (cond s (wrong (NotAcknowledged place)) right)))))) in
+      (cond e (wrong (FixedBit place)) (cond i (wrong (FixedBit early)) (cond f (wrong (FieldLength place)) (cond g (wrong (Crc place))
+      (cond s (wrong (NotAcknowledged place)) right))))))) in
       (v h ≡ v false) ⊎ (v h ≡ wrong (NotAcknowledged place))
-  tests-same t true c d e f g h = inl refl
-  tests-same true false c d e f g h = inl refl
-  tests-same false false true d e f g h = inl refl
-  tests-same false false false d true f g h = inl refl
-  tests-same false false false d false true g h = inl refl
-  tests-same false false false d false false true h = inl refl
-  tests-same false false false d false false false true = inr refl
-  tests-same false false false d false false false false = inl refl
+  tests-same t true c d e i f g h = inl refl
+  tests-same true false c d e i f g h = inl refl
+  tests-same false false true d e i f g h = inl refl
+  tests-same false false false d true i f g h = inl refl
+  tests-same false false false d false true f g h = inl refl
+  tests-same false false false d false false true g h = inl refl
+  tests-same false false false d false false false true h = inl refl
+  tests-same false false false d false false false false true = inr refl
+  tests-same false false false d false false false false false = inl refl
 
   own-slot : b ≤ 1 → slotWrong own with ≡ false
   own-slot low = go (eqb (length with) (crcStart with + 17)) refl
@@ -117,11 +125,13 @@ module _ (run : Run) (frame : List ℕ) (place b : ℕ) where
       tests : (t h : Bool) →
           let v : Bool → Verdict = λ s. cond (complete frame) (wrong (LineLength place)) (cond t (wrong (LineByte place))
           (cond (stuffDue run frame) (cond (eqb b (run .bit)) (wrong (StuffBit place)) right)
-          (cond (not (fits (mustBe frame) b)) (wrong (FixedBit place)) (cond (dlcWrong with) (wrong (FieldLength place))
-          (cond (crcWrong with) (wrong (Crc place)) (cond s (wrong (NotAcknowledged place)) right)))))) in
+          (cond (not (fits (mustBe frame) b)) (wrong (FixedBit place)) (cond (formWrong with) (wrong (FixedBit early))
+          (cond (dlcWrong with) (wrong (FieldLength place)) (cond (crcWrong with) (wrong (Crc place))
+          (cond s (wrong (NotAcknowledged place)) right))))))) in
           (v h ≡ v false) ⊎ (v h ≡ wrong (NotAcknowledged place))
       tests t h =
-          tests-same t (complete frame) (stuffDue run frame) (eqb b (run .bit)) (not (fits (mustBe frame) b)) (dlcWrong with) (crcWrong with) h
+          tests-same t (complete frame) (stuffDue run frame) (eqb b (run .bit)) (not (fits (mustBe frame) b)) (formWrong with) (dlcWrong with)
+          (crcWrong with) h
 
       byte : (t : Bool) → ltb 1 b ≡ t
           → (verdict acknowledged run frame place b ≡ verdict own run frame place b)
@@ -135,7 +145,7 @@ module _ (run : Run) (frame : List ℕ) (place b : ℕ) where
 Same : Run → List ℕ → ℕ → List ℕ → Type 0
 Same run frame place line =
     (scan acknowledged run frame place line ≡ scan own run frame place line)
-    ⊎ ((p : ℕ) × (scan acknowledged run frame place line ≡ stopped (NotAcknowledged p)))
+    ⊎ ((m : ℕ) × (p : ℕ) × (scan acknowledged run frame place line ≡ stopped m (NotAcknowledged p)))
 
 scan-same : (run : Run) (frame : List ℕ) (place : ℕ) (line : List ℕ) → Same run frame place line
 unfolding Same scan
@@ -146,18 +156,18 @@ scan-same run frame place (bit ∷ line) =
     next : Reading → Scanned
     next reading = scan reading (runWith run bit) (frameWith run frame bit) (place + 1) line
 
-    on : (v : Verdict) → (next acknowledged ≡ next own) ⊎ ((p : ℕ) × (next acknowledged ≡ stopped (NotAcknowledged p)))
-        → (onward v (next acknowledged) ≡ onward v (next own)) ⊎ ((p : ℕ) × (onward v (next acknowledged) ≡ stopped (NotAcknowledged p)))
+    on : (v : Verdict) → (next acknowledged ≡ next own) ⊎ ((m : ℕ) × (p : ℕ) × (next acknowledged ≡ stopped m (NotAcknowledged p)))
+        → (onward place v (next acknowledged) ≡ onward place v (next own)) ⊎ ((m : ℕ) × (p : ℕ) × (onward place v (next acknowledged) ≡ stopped m (NotAcknowledged p)))
     on right later = later
     on (wrong refusal) later = inl refl
 
     bits : (verdict acknowledged run frame place bit ≡ verdict own run frame place bit)
         ⊎ (verdict acknowledged run frame place bit ≡ wrong (NotAcknowledged place))
-        → (next acknowledged ≡ next own) ⊎ ((p : ℕ) × (next acknowledged ≡ stopped (NotAcknowledged p)))
-        → (onward (verdict acknowledged run frame place bit) (next acknowledged) ≡ onward (verdict own run frame place bit) (next own))
-        ⊎ ((p : ℕ) × (onward (verdict acknowledged run frame place bit) (next acknowledged) ≡ stopped (NotAcknowledged p)))
+        → (next acknowledged ≡ next own) ⊎ ((m : ℕ) × (p : ℕ) × (next acknowledged ≡ stopped m (NotAcknowledged p)))
+        → (onward place (verdict acknowledged run frame place bit) (next acknowledged) ≡ onward place (verdict own run frame place bit) (next own))
+        ⊎ ((m : ℕ) × (p : ℕ) × (onward place (verdict acknowledged run frame place bit) (next acknowledged) ≡ stopped m (NotAcknowledged p)))
     bits (inl e) later = rw e (on (verdict own run frame place bit) later)
-    bits (inr e) later = inr (place, rw e refl)
+    bits (inr e) later = inr (place, place, rw e refl)
 
 pub same-answer : (line : List ℕ) (room : ℕ) → ((p : ℕ) → readAnswer acknowledged line room ≡ Refused (NotAcknowledged p) → ⊥)
     → (readAnswer own line room ≡ readAnswer acknowledged line room) × (payloadIn own line ≡ payloadIn acknowledged line)
@@ -167,7 +177,7 @@ same-answer line room heard = go (scan-same nothingSent [] 0 line)
     go : Same nothingSent [] 0 line
         → (readAnswer own line room ≡ readAnswer acknowledged line room) × (payloadIn own line ≡ payloadIn acknowledged line)
     go (inl e) = (ap (λ (s : Scanned). decoded s room) (sym e), ap carried (sym e))
-    go (inr (p, e)) = absurd (heard p (ap (λ (s : Scanned). decoded s room) e))
+    go (inr (m, p, e)) = absurd (heard p (ap (λ (s : Scanned). decoded s room) e))
 
 -- what is known at a place of the line
 module _ (line : List ℕ) (k : ℕ) where
@@ -183,31 +193,32 @@ module _ (line : List ℕ) (k : ℕ) where
 pub not-acknowledged : (line : List ℕ) (room p : ℕ) → readAnswer acknowledged line room ≡ Refused (NotAcknowledged p) →
     (p < length line) × (getD line p 0 ≡ 1) × (length (frameTo line p) ≡ crcStart (frameTo line p) + 16)
     × ((k : ℕ) → k < p → verdictAt line k own ≡ right)
-not-acknowledged line room p e = go (problem-met acknowledged line (NotAcknowledged p) stop)
+not-acknowledged line room p e = go (problem-met acknowledged line p (NotAcknowledged p) stop)
   where
-    stop : scanned acknowledged line ≡ stopped (NotAcknowledged p)
-    stop = bits-refused acknowledged line room (NotAcknowledged p) e (twenty p)
+    stop : scanned acknowledged line ≡ stopped p (NotAcknowledged p)
+    stop = refused-there acknowledged line room (NotAcknowledged p) e (twenty p) (λ n. omega (arith, n))
 
     left : (k : ℕ) → k < p → verdictAt line k own ≡ right
-    left k h = bit (verdict-same (runTo line k) (frameTo line k) k (getD line k 0)) (right-before acknowledged line (NotAcknowledged p) stop k h)
+    left k h = bit (verdict-same (runTo line k) (frameTo line k) k (getD line k 0)) (right-before acknowledged line p (NotAcknowledged p) stop k h)
       where
         bit : {v w : Verdict} → (v ≡ w) ⊎ (v ≡ wrong (NotAcknowledged k)) → v ≡ right → w ≡ right
         bit (inl same) is = sym same ∙ is
         bit (inr refused) is = let z : _≡_ {A = ℕ} 0 1 = cc in absurd (omega arith)
 
     go : ((p < length line) × (verdictAt line p acknowledged ≡ wrong (NotAcknowledged p)))
-        ⊎ ((NotAcknowledged p ≡ LineLength (length line)) × (complete (frameBehind nothingSent [] line) ≡ false))
+        ⊎ ((p ≡ length line) × (NotAcknowledged p ≡ LineLength (length line)) × (complete (frameBehind nothingSent [] line) ≡ false))
         → (p < length line) × (getD line p 0 ≡ 1) × (length (frameTo line p) ≡ crcStart (frameTo line p) + 16)
         × ((k : ℕ) → k < p → verdictAt line k own ≡ right)
     go (inl (inside, met)) =
         let told = unheard (runTo line p) (frameTo line p) p (getD line p 0) p acknowledged met in
         (inside, told .1, told .3, left)
-    go (inr (end, more)) = let z : _≡_ {A = ℕ} 0 1 = cc in absurd (omega arith)
+    go (inr (at-end, end, more)) = let z : _≡_ {A = ℕ} 0 1 = cc in absurd (omega arith)
 
 pub own-never-20 : (line : List ℕ) (room p : ℕ) → readAnswer own line room ≡ Refused (NotAcknowledged p) → ⊥
-own-never-20 line room p e = go (problem-met own line (NotAcknowledged p) (bits-refused own line room (NotAcknowledged p) e (twenty p)))
+own-never-20 line room p e =
+    go (problem-met own line p (NotAcknowledged p) (refused-there own line room (NotAcknowledged p) e (twenty p) (λ n. omega (arith, n))))
   where
     go : ((p < length line) × (verdictAt line p own ≡ wrong (NotAcknowledged p)))
-        ⊎ ((NotAcknowledged p ≡ LineLength (length line)) × (complete (frameBehind nothingSent [] line) ≡ false)) → ⊥
+        ⊎ ((p ≡ length line) × (NotAcknowledged p ≡ LineLength (length line)) × (complete (frameBehind nothingSent [] line) ≡ false)) → ⊥
     go (inl (inside, met)) = let told = unheard (runTo line p) (frameTo line p) p (getD line p 0) p own met in omega (arith, told .2)
-    go (inr (end, more)) = let z : _≡_ {A = ℕ} 0 1 = cc in omega arith
+    go (inr (at-end, end, more)) = let z : _≡_ {A = ℕ} 0 1 = cc in omega arith

@@ -8,13 +8,17 @@ ghost use Rattle.line.specs.Read.{acknowledged, own, readAnswer, payload
 
 mod data_field;
 
+use frame::Identifier;
 use refusals::Refusal;
 use scanning::Held;
 use scanning::Reading;
 
 // What a line holds: an identifier and a payload, of which this is the length; or a refusal. [7.5]
 pub enum Line {
-    Frame { identifier: u32, length: usize },
+    Frame {
+        length: usize,
+        identifier: Identifier,
+    },
     Refused(Refusal),
 }
 
@@ -42,8 +46,8 @@ pub fn read(line: &[u8], payload: &mut [u8], reading: Reading) -> Line
 {
     match scanning::scan(line, reading) {
         Held::Frame {
-            identifier,
             n,
+            identifier,
             field,
         } => data_field::decode(identifier, n, field, payload),
         Held::Refused(refusal) => Line::Refused(refusal),

@@ -14,8 +14,8 @@ use Rattle.line.proofs.read.Tie as tie
 scan-requires : tie.Need-scan-requires
 scan-requires c κs = search needs
 
-enum-known-identifier : tie.Need-enum-known-identifier
-enum-known-identifier c = search needs
+enum-known-n : tie.Need-enum-known-n
+enum-known-n c = search needs
 
 decode-requires : tie.Need-decode-requires
 decode-requires c κs = search needs
@@ -30,7 +30,7 @@ returns : tie.Need-returns
 returns c =
     let args = c .before .before .before .before .before .before .before .before .before .before .args in
     let scan = c .before .before .before .before .before .before .before .scan in
-    let told = sym (scan .ensures) ∙ c .before .before .before .before .before .identifier .given .1 in
+    let told = sym (scan .ensures) ∙ c .before .before .before .before .before .n .given .1 in
     let read = from-held (args .reading) (args .line .now) _ _ _ (length (args .payload .now)) told in
     let said = c .before .before .decode .ensures in (
       said .0 ∙ read .0,
@@ -50,7 +50,7 @@ read-spec =
     tie.close
     (tie.spec
     scan-requires
-    enum-known-identifier
+    enum-known-n
     decode-requires
     enum-known-refusal
     same-length

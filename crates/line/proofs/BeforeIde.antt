@@ -1,0 +1,319 @@
+-- The one refusal that does not stand where it is met: 13 at the bit before IDE, RTR or SRR, met at IDE. Assumes nothing.
+--     ide-verdict    of the verdicts on a bit, 13 at another place comes of IDE alone, which is another bit than the frame's bit before it
+--     run-step, frame-step    what is known behind a bit, from what is known before it
+--     fixed-elsewhere    13 at the place where it is met is given neither for IDE nor for the bit before it
+--     before-ide     the place that is told is that of the frame's bit before IDE, whether or not a stuff bit stands between the two
+use mathlib.Core.Path.{_≡_, refl, sym, ap, _∙_}
+use mathlib.Core.Bool.{Bool, true, false, cond, not, _&&_}
+use mathlib.Core.List.{List, [], _∷_, _++_}
+use mathlib.Core.Logic.{_⊎_, inl, inr}
+use Prim.Native.Nat.{ℕ, zero, suc, _+_, _-_, _≤_, _<_}
+use native.Mathlib.Omega.{arith}
+use lib.Dec.{eqb, ltb, lit<}
+use lib.ListN.{length, getD, take, length-append, List·getD-append}
+use lib.Seq.{take-suc, getD-at}
+use borrow.Author.Tests.{ltb-false, eqb-true, eqb-false, eq-eqb, ne-eqb}
+use Rattle.bits.specs.declared.Run.{Run}
+use Rattle.bits.specs.Stuffing.{nothingSent}
+use Rattle.refusals.specs.declared.Refusal.{Refusal}
+use Rattle.refusals.specs.declared.Refusal.the-variants.{FieldLength, LineByte, StuffBit, LineLength, Crc, FixedBit, NotAcknowledged}
+use Rattle.scanning.specs.Form.{either, form, fits}
+use Rattle.scanning.specs.Scan.{longIn, dlcIn, complete, stuffDue, mustBe, formRight, beforeIde, Verdict, right, wrong, shown, verdict, runWith, frameWith, runBehind, frameBehind, stopped, scanned}
+use Rattle.scanning.specs.declared.Reading.{Reading}
+use Rattle.scanning.proofs.Partial.{must-early}
+use Rattle.line.proofs.Sound.{dlcWrong, crcWrong, slotWrong, bit-right, stuff-right}
+use Rattle.line.proofs.ProblemMet.{problem-met, right-before}
+
+-- ---- the verdict on IDE
+
+-- the bit is IDE, and the place that is told is this
+record Ide (run : Run) (frame : List ℕ) (place b p : ℕ) : Type 0 where
+  bit : b ≤ 1
+  none-due : stuffDue run frame ≡ false
+  thirteen : length frame ≡ 13
+  differs : getD frame 12 0 ≡ b → ⊥
+  told : beforeIde (runWith run b) place ≡ p
+
+module _ (reading : Reading) (run : Run) (frame : List ℕ) (place b p : ℕ) (elsewhere : p ≡ place → ⊥) where
+  abbrev with : List ℕ
+  with = frame ++ (b ∷ [])
+
+  abbrev early : ℕ
+  early = beforeIde (runWith run b) place
+
+  -- a refusal at this place comes of another test
+  other : (t : Bool) (r : Refusal) (v : Verdict) → (r ≡ FixedBit p → ⊥) → cond t (wrong r) v ≡ wrong (FixedBit p)
+      → (t ≡ false) × (v ≡ wrong (FixedBit p))
+  other true r v n e = let same : r ≡ FixedBit p = cc in absurd (n same)
+  other false r v n e = (refl, e)
+
+  no-stuff : (t u : Bool) (v : Verdict) → cond t (cond u (wrong (StuffBit place)) right) v ≡ wrong (FixedBit p)
+      → (t ≡ false) × (v ≡ wrong (FixedBit p))
+  no-stuff true true v e = let z : _≡_ {A = ℕ} 0 1 = cc in absurd (omega arith)
+  no-stuff true false v e = let z : _≡_ {A = ℕ} 0 1 = cc in absurd (omega arith)
+  no-stuff false u v e = (refl, e)
+
+  last : (t u v : Bool)
+      → cond t (wrong (FieldLength place)) (cond u (wrong (Crc place)) (cond v (wrong (NotAcknowledged place)) right)) ≡ wrong (FixedBit p) → ⊥
+  last true u v e = let z : _≡_ {A = ℕ} 0 1 = cc in omega arith
+  last false true v e = let z : _≡_ {A = ℕ} 0 1 = cc in omega arith
+  last false false true e = let z : _≡_ {A = ℕ} 0 1 = cc in omega arith
+  last false false false e = let z : _≡_ {A = ℕ} 0 1 = cc in omega arith
+
+  at-form : (t u : Bool) (v : Verdict) → (v ≡ wrong (FixedBit p) → ⊥) → cond (t && not u) (wrong (FixedBit early)) v ≡ wrong (FixedBit p)
+      → (t ≡ true) × (u ≡ false) × (early ≡ p)
+  at-form true false v n e = let same : FixedBit early ≡ FixedBit p = cc in (refl, refl, cc)
+  at-form true true v n e = absurd (n e)
+  at-form false u v n e = absurd (n e)
+
+  ide-verdict : verdict reading run frame place b ≡ wrong (FixedBit p) → Ide run frame place b p
+  unfolding verdict shown
+  ide-verdict e =
+      let more = other (complete frame) (LineLength place) _ (λ d. let z : _≡_ {A = ℕ} 0 1 = cc in omega arith) e in
+      let byte = other (ltb 1 b) (LineByte place) _ (λ d. let z : _≡_ {A = ℕ} 0 1 = cc in omega arith) (more .1) in
+      let stuff = no-stuff (stuffDue run frame) (eqb b (run .bit)) _ (byte .1) in
+      let fixed = other (not (fits (mustBe frame) b)) (FixedBit place) _ (λ d. elsewhere (sym (place-only d))) (stuff .1) in
+      let form = at-form (eqb (length with) 14) (formRight with) _ (last (dlcWrong with) (crcWrong with) (slotWrong reading with)) (fixed .1) in
+      let long = eqb-true (length with) 14 (form .0) in
+      let thirteen : length frame ≡ 13 = omega (arith, long, length-append frame (b ∷ [])) in
+      let before = List·getD-append frame (b ∷ []) 0 12 (omega (arith, thirteen)) in
+      let ide = getD-at frame b [] 0 13 thirteen in
+      record {
+        bit = ltb-false 1 b (byte .0);
+        none-due = stuff .0;
+        thirteen = thirteen;
+        differs = λ same. eqb-false (getD with 12 0) (getD with 13 0) (form .1) (before ∙ same ∙ sym ide);
+        told = form .2;
+      }
+    where
+      place-only : {m n : ℕ} → FixedBit m ≡ FixedBit n → m ≡ n
+      place-only d = cc
+
+-- ---- what is known behind a bit
+
+run-last : (run : Run) (l : List ℕ) (b : ℕ) → runBehind run (l ++ (b ∷ [])) ≡ runWith (runBehind run l) b
+unfolding runBehind
+run-last run [] b = refl
+run-last run (x ∷ l) b = run-last (runWith run x) l b
+
+frame-last : (run : Run) (frame l : List ℕ) (b : ℕ) → frameBehind run frame (l ++ (b ∷ [])) ≡ frameWith (runBehind run l) (frameBehind run frame l) b
+unfolding runBehind frameBehind
+frame-last run frame [] b = refl
+frame-last run frame (x ∷ l) b = frame-last (runWith run x) (frameWith run frame x) l b
+
+module _ (line : List ℕ) where
+  abbrev pub runTo : ℕ → Run
+  runTo k = runBehind nothingSent (take k line)
+
+  abbrev pub frameTo : ℕ → List ℕ
+  frameTo k = frameBehind nothingSent [] (take k line)
+
+  run-step : (k : ℕ) → k < length line → runTo (suc k) ≡ runWith (runTo k) (getD line k 0)
+  run-step k h = ap (runBehind nothingSent) (take-suc line k 0 h) ∙ run-last nothingSent (take k line) (getD line k 0)
+
+  frame-step : (k : ℕ) → k < length line → frameTo (suc k) ≡ frameWith (runTo k) (frameTo k) (getD line k 0)
+  frame-step k h = ap (frameBehind nothingSent []) (take-suc line k 0 h) ∙ frame-last nothingSent [] (take k line) (getD line k 0)
+
+-- ---- and so where that bit stands
+
+early-one : (run : Run) (b place : ℕ) → (b ≡ run .bit → ⊥) → beforeIde (runWith run b) place ≡ place - 1
+unfolding runWith
+early-one run b place n = simp (ne-eqb b (run .bit) n)
+
+early-two : (run : Run) (b place : ℕ) → b ≡ run .bit → run .count ≡ 1 → beforeIde (runWith run b) place ≡ place - 2
+unfolding runWith
+early-two run b place e one = simp (eq-eqb b (run .bit) e, one)
+
+-- IDE is read where 13 is met, the frame's bit before it at this place, and they are not the same
+pub record BitBeforeIde (line : List ℕ) (met p : ℕ) : Type 0 where
+  pub inside : met < length line
+  pub before : p < met
+  pub bits-to : length (frameTo line p) ≡ 12
+  pub bits-with : length (frameTo line (p + 1)) ≡ 13
+  pub ide-to : length (frameTo line met) ≡ 13
+  pub ide-with : length (frameTo line (met + 1)) ≡ 14
+  pub differs : getD line p 0 ≡ getD line met 0 → ⊥
+
+module _ (reading : Reading) (line : List ℕ) where
+  abbrev bitAt : ℕ → ℕ
+  bitAt k = getD line k 0
+
+  abbrev dueAt : ℕ → Bool
+  dueAt k = stuffDue (runTo line k) (frameTo line k)
+
+  module _ (k : ℕ) (h : k < length line) where
+    bit-next : dueAt k ≡ false → frameTo line (suc k) ≡ frameTo line k ++ (bitAt k ∷ [])
+    unfolding frameWith
+    bit-next due = frame-step line k h ∙ rw due
+
+    stuff-next : dueAt k ≡ true → frameTo line (suc k) ≡ frameTo line k
+    unfolding frameWith
+    stuff-next due = frame-step line k h ∙ rw due
+
+    run-bit : runTo line (suc k) .bit ≡ bitAt k
+    unfolding runWith
+    run-bit = ap (λ (r : Run). r .bit) (run-step line k h)
+
+    run-anew : (bitAt k ≡ runTo line k .bit → ⊥) → runTo line (suc k) .count ≡ 1
+    unfolding runWith
+    run-anew n = ap (λ (r : Run). r .count) (run-step line k h) ∙ simp (ne-eqb (bitAt k) (runTo line k .bit) n)
+
+  -- the frame's bit before IDE is the one at k, and the place that is told is this
+  module _ (met p k : ℕ) (inside : met < length line) (before : k < met)
+      (ide : Ide (runTo line met) (frameTo line met) met (bitAt met) p)
+      (due : dueAt k ≡ false) (same : frameTo line met ≡ frameTo line (suc k)) where
+    twelve : length (frameTo line k) ≡ 12
+    twelve =
+        omega (
+          arith,
+          ide .thirteen,
+          ap length (same ∙ bit-next k (omega (arith, before, inside)) due),
+          length-append (frameTo line k) (bitAt k ∷ []),
+        )
+
+    other-bit : bitAt k ≡ bitAt met → ⊥
+    other-bit e =
+        ide .differs
+        (ap (λ (l : List ℕ). getD l 12 0) (same ∙ bit-next k (omega (arith, before, inside)) due)
+        ∙ getD-at (frameTo line k) (bitAt k) [] 0 12 twelve ∙ e)
+
+    placed : k ≡ p → BitBeforeIde line met p
+    placed is =
+        let one : suc k ≡ p + 1 = omega (arith, is) in
+        let next : suc met ≡ met + 1 = omega arith in
+        record {
+          inside = inside;
+          before = omega (arith, is, before);
+          bits-to = ap (λ (i : ℕ). length (frameTo line i)) (sym is) ∙ twelve;
+          bits-with = ap (λ (i : ℕ). length (frameTo line i)) (sym one) ∙ ap length (sym same) ∙ ide .thirteen;
+          ide-to = ide .thirteen;
+          ide-with =
+              ap (λ (i : ℕ). length (frameTo line i)) (sym next) ∙ ap length (bit-next met inside (ide .none-due))
+              ∙ omega (arith, length-append (frameTo line met) (bitAt met ∷ []), ide .thirteen);
+          differs = λ e. other-bit (ap bitAt is ∙ e);
+        }
+
+  due-five : (k : ℕ) → dueAt k ≡ true → runTo line k .count ≡ 5
+  unfolding stuffDue
+  due-five k due = eqb-true (runTo line k .count) 5 (both (eqb (runTo line k .count) 5) _ due)
+    where
+      both : (s t : Bool) → (s && t) ≡ true → s ≡ true
+      both true t d = refl
+      both false t d = d
+
+  module _ (p : ℕ) where
+    abbrev RightAt : ℕ → Type 0
+    RightAt k = verdict reading (runTo line k) (frameTo line k) k (bitAt k) ≡ right
+
+    -- IDE behind a bit of the frame
+    one-back : (k : ℕ) → suc k < length line → Ide (runTo line (suc k)) (frameTo line (suc k)) (suc k) (bitAt (suc k)) p → dueAt k ≡ false
+        → BitBeforeIde line (suc k) p
+    one-back k inside ide due =
+        let differs = other-bit (suc k) p k inside (omega arith) ide due refl in
+        let run = run-bit k (omega (arith, inside)) in
+        let early = early-one (runTo line (suc k)) (bitAt (suc k)) (suc k) (λ e. differs (sym (e ∙ run))) in
+        placed (suc k) p k inside (omega arith) ide due refl (omega (arith, early, ide .told))
+
+    -- IDE behind a stuff bit
+    two-back : (k : ℕ) → suc (suc k) < length line → Ide (runTo line (suc (suc k))) (frameTo line (suc (suc k))) (suc (suc k)) (bitAt (suc (suc k))) p
+        → RightAt k → RightAt (suc k) → dueAt (suc k) ≡ true → BitBeforeIde line (suc (suc k)) p
+    two-back k inside ide first second due = go (dueAt k) refl
+      where
+        here : k < length line
+        here = omega (arith, inside)
+
+        next : suc k < length line
+        next = omega (arith, inside)
+
+        go : (t : Bool) → dueAt k ≡ t → BitBeforeIde line (suc (suc k)) p
+        go true d =
+            let anew = run-anew k here (stuff-right reading (runTo line k) (frameTo line k) k (bitAt k) d first .1) in
+            absurd (omega (arith, anew, due-five (suc k) due))
+        go false d =
+            let same = stuff-next (suc k) next due in
+            let differs = other-bit (suc (suc k)) p k inside (omega arith) ide d same in
+            let low = bit-right reading (runTo line k) (frameTo line k) k (bitAt k) d first .below in
+            let stuff = stuff-right reading (runTo line (suc k)) (frameTo line (suc k)) (suc k) (bitAt (suc k)) due second in
+            let apart : bitAt (suc k) ≡ bitAt k → ⊥ = λ e. stuff .1 (e ∙ sym (run-bit k here)) in
+            let is : bitAt (suc (suc k)) ≡ bitAt (suc k) = binary (bitAt k) (bitAt (suc k)) (bitAt (suc (suc k))) low (stuff .0) (ide .bit) apart differs in
+            let early = early-two (runTo line (suc (suc k))) (bitAt (suc (suc k))) (suc (suc k)) (is ∙ sym (run-bit (suc k) next)) (run-anew (suc k) next (stuff .1)) in
+            placed (suc (suc k)) p k inside (omega arith) ide d same (omega (arith, early, ide .told))
+          where
+            binary : (x y z : ℕ) → x < 2 → y < 2 → z ≤ 1 → (y ≡ x → ⊥) → (x ≡ z → ⊥) → z ≡ y
+            binary x y z hx hy hz n m = omega arith
+
+    back : (met : ℕ) → met < length line → Ide (runTo line met) (frameTo line met) met (bitAt met) p → ((k : ℕ) → k < met → RightAt k) → BitBeforeIde line met p
+    unfolding runBehind frameBehind stuffDue
+    back zero inside ide before = absurd (omega (arith, ide .thirteen))
+    back (suc zero) inside ide before = one-back 0 inside ide refl
+    back (suc (suc k)) inside ide before = go (dueAt (suc k)) refl
+      where
+        go : (t : Bool) → dueAt (suc k) ≡ t → BitBeforeIde line (suc (suc k)) p
+        go true due = two-back k inside ide (before k (omega arith)) (before (suc k) (omega arith)) due
+        go false due = one-back (suc k) inside ide due
+
+  pub before-ide : (met p : ℕ) → scanned reading line ≡ stopped met (FixedBit p) → (p ≡ met → ⊥) → BitBeforeIde line met p
+  before-ide met p e elsewhere = start (problem-met reading line met (FixedBit p) e)
+    where
+      start : ((met < length line) × (verdict reading (runTo line met) (frameTo line met) met (bitAt met) ≡ wrong (FixedBit p)))
+          ⊎ ((met ≡ length line) × (FixedBit p ≡ LineLength (length line)) × (complete (frameBehind nothingSent [] line) ≡ false))
+          → BitBeforeIde line met p
+      start (inl (inside, v)) =
+          back p met inside (ide-verdict reading (runTo line met) (frameTo line met) met (bitAt met) p elsewhere v)
+          (right-before reading line met (FixedBit p) e)
+      start (inr (at-end, end, more)) = let z : _≡_ {A = ℕ} 0 1 = cc in absurd (omega arith)
+
+-- ---- where 13 is met at its own place, that is neither IDE's nor that of the bit before it
+
+module _ (reading : Reading) (run : Run) (frame : List ℕ) (place b : ℕ) (later : 0 < place) where
+  -- a test that gives another refusal
+  past : (t : Bool) (r : Refusal) (v : Verdict) → (r ≡ FixedBit place → ⊥) → cond t (wrong r) v ≡ wrong (FixedBit place) → v ≡ wrong (FixedBit place)
+  past true r v n e = let same : r ≡ FixedBit place = cc in absurd (n same)
+  past false r v n e = e
+
+  past-stuff : (t u : Bool) (v : Verdict) → cond t (cond u (wrong (StuffBit place)) right) v ≡ wrong (FixedBit place) → v ≡ wrong (FixedBit place)
+  past-stuff true true v e = let z : _≡_ {A = ℕ} 0 1 = cc in absurd (omega arith)
+  past-stuff true false v e = let z : _≡_ {A = ℕ} 0 1 = cc in absurd (omega arith)
+  past-stuff false u v e = e
+
+  -- the place of the bit before IDE is another
+  earlier : (t : Bool) → FixedBit (cond t (place - 1) (place - 2)) ≡ FixedBit place → ⊥
+  earlier true e = let same : place - 1 ≡ place = cc in omega arith
+  earlier false e = let same : place - 2 ≡ place = cc in omega arith
+
+  -- where either bit may stand, no test gives it
+  no-fixed : mustBe frame ≡ either → verdict reading run frame place b ≡ wrong (FixedBit place) → ⊥
+  unfolding verdict shown
+  no-fixed free e =
+      let with = frame ++ (b ∷ []) in
+      let more = past (complete frame) (LineLength place) _ (λ d. let z : _≡_ {A = ℕ} 0 1 = cc in omega arith) e in
+      let byte = past (ltb 1 b) (LineByte place) _ (λ d. let z : _≡_ {A = ℕ} 0 1 = cc in omega arith) more in
+      let bit = past-stuff (stuffDue run frame) (eqb b (run .bit)) _ byte in
+      let may = rw free at bit in
+      let form = past (eqb (length with) 14 && not (formRight with)) _ _ (earlier (eqb (runWith run b .count) 1)) may in
+      let dlc = past (dlcWrong with) (FieldLength place) _ (λ d. let z : _≡_ {A = ℕ} 0 1 = cc in omega arith) form in
+      let check = past (crcWrong with) (Crc place) _ (λ d. let z : _≡_ {A = ℕ} 0 1 = cc in omega arith) dlc in
+      let slot = past (slotWrong reading with) (NotAcknowledged place) _ (λ d. let z : _≡_ {A = ℕ} 0 1 = cc in omega arith) check in
+      let z : _≡_ {A = ℕ} 0 1 = cc in
+      omega arith
+
+-- IDE, and the bit before it
+free-there : (frame : List ℕ) → (length frame ≡ 12) ⊎ (length frame ≡ 13) → mustBe frame ≡ either
+unfolding mustBe
+free-there frame (inl e) =
+    ap (λ (k : ℕ). getD (form (longIn frame) (dlcIn frame)) k either) e ∙ must-early (longIn frame) (dlcIn frame) 12 (lit< tt)
+free-there frame (inr e) =
+    ap (λ (k : ℕ). getD (form (longIn frame) (dlcIn frame)) k either) e ∙ must-early (longIn frame) (dlcIn frame) 13 (lit< tt)
+
+pub fixed-elsewhere : (reading : Reading) (line : List ℕ) (met : ℕ) → scanned reading line ≡ stopped met (FixedBit met)
+    → (length (frameTo line met) ≡ 12) ⊎ (length (frameTo line met) ≡ 13) → ⊥
+unfolding frameBehind
+fixed-elsewhere reading line zero e (inl none) = omega (arith, none)
+fixed-elsewhere reading line zero e (inr none) = omega (arith, none)
+fixed-elsewhere reading line (suc k) e there = go (problem-met reading line (suc k) (FixedBit (suc k)) e)
+  where
+    go : ((suc k < length line) × (verdict reading (runTo line (suc k)) (frameTo line (suc k)) (suc k) (getD line (suc k) 0) ≡ wrong (FixedBit (suc k))))
+        ⊎ ((suc k ≡ length line) × (FixedBit (suc k) ≡ LineLength (length line)) × (complete (frameBehind nothingSent [] line) ≡ false)) → ⊥
+    go (inl (inside, met)) =
+        no-fixed reading (runTo line (suc k)) (frameTo line (suc k)) (suc k) (getD line (suc k) 0) (omega arith) (free-there (frameTo line (suc k)) there) met
+    go (inr (end, other, more)) = let z : _≡_ {A = ℕ} 0 1 = cc in omega arith
