@@ -13,6 +13,7 @@ use Rattle.field.specs.Encode.{encodeAnswer}
 use Rattle.field.proofs.Small.{encode-small}
 use Rattle.decoding.specs.Decode.{decodeAnswer}
 use Rattle.decoding.proofs.Small.{decode-small}
+use Rattle.frame.specs.declared.Identifier.{Identifier}
 use Rattle.frame.specs.Answers.{makeAnswer, lengthAnswer, boundsAnswer, boundsNumbers}
 use Rattle.frame.specs.declared.Bounds.{Bounds}
 use Rattle.frame.specs.declared.Bounds.the-variants as bounds
@@ -34,7 +35,7 @@ bounds-given (bounds.Between least most) h g = record { low = h; refusal = lit< 
 bounds-given (bounds.Refused r) h g = refused-fits r h
 
 line-given : (l : Line) → lineNumbers l .low < 2 ^ 16 → lineNumbers l .high < 2 ^ 32 → Fits (lineNumbers l)
-line-given (line.Frame identifier n) h g = record { low = h; refusal = lit< tt; high = g }
+line-given (line.Frame n identifier) h g = record { low = h; refusal = lit< tt; high = g }
 line-given (line.Refused r) h g = refused-fits r h
 
 -- the numbers of an answer that is said to be another's
@@ -50,20 +51,20 @@ encode-fits payload room a e = given-fits a (omega (arith, low answerNumbers e, 
 pub decode-fits : (field : List ℕ) (room : ℕ) (a : Answer) → a ≡ decodeAnswer field room → Fits (answerNumbers a)
 decode-fits field room a e = given-fits a (omega (arith, low answerNumbers e, decode-small field room))
 
-module _ (identifier : ℕ) (payload : List ℕ) where
+module _ (identifier : Identifier) (payload : List ℕ) where
   pub length-fits : (a : Answer) → a ≡ lengthAnswer identifier payload → Fits (answerNumbers a)
   length-fits a e = given-fits a (omega (arith, low answerNumbers e, length-small identifier payload))
 
   pub make-fits : (room : ℕ) (a : Answer) → a ≡ makeAnswer identifier payload room → Fits (answerNumbers a)
   make-fits room a e = given-fits a (omega (arith, low answerNumbers e, make-small identifier payload room))
 
-pub bounds-both : (identifier size : ℕ) (b : Bounds) → b ≡ boundsAnswer identifier size
+pub bounds-both : (identifier : Identifier) (size : ℕ) (b : Bounds) → b ≡ boundsAnswer identifier size
     → (boundsNumbers b .low < 2 ^ 16) × (boundsNumbers b .high < 2 ^ 16)
 bounds-both identifier size b e =
     let few = bounds-small identifier size in
     (omega (arith, low boundsNumbers e, few .0), omega (arith, high boundsNumbers e, few .1))
 
-pub bounds-fit : (identifier size : ℕ) (b : Bounds) → b ≡ boundsAnswer identifier size → Fits (boundsNumbers b)
+pub bounds-fit : (identifier : Identifier) (size : ℕ) (b : Bounds) → b ≡ boundsAnswer identifier size → Fits (boundsNumbers b)
 bounds-fit identifier size b e =
     let both = bounds-both identifier size b e in
     bounds-given b (both .0) (omega (arith, both .1))

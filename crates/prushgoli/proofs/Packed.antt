@@ -3,7 +3,8 @@
 --     told-back       what C reads out of the number are the document's numbers that were packed
 --     pack-only       two answers are packed alike only if their numbers are the same
 --     refused-fits    a refusal fits if its place does
---     answer-packs, bounds-pack, line-packs    so an answer is packed into a number that tells which answer it was
+--     answer-packs, bounds-pack, line-packs    so an answer is packed into a number that tells which answer it was; of a line where the
+--                     number of the identifier leaves bit 31 to its form
 --     same-packed     a call that passes an answer on says what that answer says
 use mathlib.Core.Path.{_≡_, sym, ap, _∙_}
 use mathlib.Core.List.{List}
@@ -19,7 +20,7 @@ use Rattle.frame.specs.declared.Bounds.{Bounds}
 use Rattle.frame.proofs.BoundsAnswers.{bounds-only}
 use Rattle.line.specs.Read.{lineNumbers}
 use Rattle.line.specs.declared.Line.{Line}
-use Rattle.line.proofs.ReadAnswers.{line-only}
+use Rattle.line.proofs.ReadAnswers.{Bit31Free, line-only}
 use Rattle.prushgoli.specs.Packing.{pack, told}
 
 pub record Fits (x : Numbers) : Type 0 where
@@ -52,8 +53,9 @@ answer-packs a b f g e = answer-only a b (pack-only (answerNumbers a) (answerNum
 pub bounds-pack : (a b : Bounds) → Fits (boundsNumbers a) → Fits (boundsNumbers b) → pack (boundsNumbers a) ≡ pack (boundsNumbers b) → a ≡ b
 bounds-pack a b f g e = bounds-only a b (pack-only (boundsNumbers a) (boundsNumbers b) f g e)
 
-pub line-packs : (a b : Line) → Fits (lineNumbers a) → Fits (lineNumbers b) → pack (lineNumbers a) ≡ pack (lineNumbers b) → a ≡ b
-line-packs a b f g e = line-only a b (pack-only (lineNumbers a) (lineNumbers b) f g e)
+pub line-packs : (a b : Line) → Bit31Free a → Bit31Free b → Fits (lineNumbers a) → Fits (lineNumbers b) → pack (lineNumbers a) ≡ pack (lineNumbers b)
+    → a ≡ b
+line-packs a b x y f g e = line-only a b x y (pack-only (lineNumbers a) (lineNumbers b) f g e)
 
 pub same-packed : {A : Type 0} (numbers : A → Numbers) (memory : A → List ℕ) (a b : A) (r : ℕ) (left : List ℕ) → a ≡ b
     → r ≡ pack (numbers a) → left ≡ memory a → (r ≡ pack (numbers b)) × (left ≡ memory b)

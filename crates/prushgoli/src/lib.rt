@@ -1,4 +1,5 @@
-// The library as C calls it: each call under its C name, its answer packed into one number. A slice passes as pointer and length.
+// The library as C calls it: each call under its C name, its answer packed into one number. A slice passes as pointer and length, an
+// identifier as one number.
 ghost use mathlib.Core.Path.{_≡_};
 ghost use lib.ListN.{length};
 ghost use Rattle.refusals.specs.Table.{answerNumbers};
@@ -6,10 +7,12 @@ ghost use Rattle.refusals.specs.After.{after};
 ghost use Rattle.field.specs.Field.{fieldOf};
 ghost use Rattle.field.specs.Encode.{encodeAnswer};
 ghost use Rattle.decoding.specs.Decode.{decodeAnswer, payloadOf};
+ghost use Rattle.frame.specs.Identifier.{identifierOf};
 ghost use Rattle.frame.specs.Answers.{payloadLine, makeAnswer, lengthAnswer, boundsAnswer, boundsNumbers};
 ghost use Rattle.line.specs.Read.{acknowledged, own, readAnswer, payloadIn, lineNumbers};
 ghost use Rattle.prushgoli.specs.Packing.{pack};
 
+mod identifier;
 mod packing;
 
 use scanning::Reading;
@@ -35,26 +38,26 @@ pub extern "C" fn prushgoli_decode(field: &[u8], payload: &mut [u8]) -> u64
 // The length of the frame of an identifier and a payload.
 #[no_mangle]
 pub extern "C" fn prushgoli_frame_length(identifier: u32, payload: &[u8]) -> u64
-    ensures { λ r. ⌜ r ≡ pack (answerNumbers (lengthAnswer identifier (now (payload .entry)))) ⌝ }
+    ensures { λ r. ⌜ r ≡ pack (answerNumbers (lengthAnswer (identifierOf identifier) (now (payload .entry)))) ⌝ }
 {
-    packing::answer(frame::frame_length(identifier, payload))
+    packing::answer(frame::frame_length(identifier::of(identifier), payload))
 }
 
 // The bounds of the length of every frame of an identifier and a size.
 #[no_mangle]
 pub extern "C" fn prushgoli_frame_bounds(identifier: u32, size: usize) -> u64
-    ensures { λ r. ⌜ r ≡ pack (boundsNumbers (boundsAnswer identifier size)) ⌝ }
+    ensures { λ r. ⌜ r ≡ pack (boundsNumbers (boundsAnswer (identifierOf identifier) size)) ⌝ }
 {
-    packing::bounds(frame::frame_bounds(identifier, size))
+    packing::bounds(frame::frame_bounds(identifier::of(identifier), size))
 }
 
 // Makes the line of the frame of an identifier and a payload.
 #[no_mangle]
 pub extern "C" fn prushgoli_make_frame(identifier: u32, payload: &[u8], line: &mut [u8]) -> u64
-    ensures answer { λ r. ⌜ r ≡ pack (answerNumbers (makeAnswer identifier (now (payload .entry)) (length (now (line .entry))))) ⌝ }
-    ensures memory { λ _. ⌜ now (line .exit) ≡ after (answerNumbers (makeAnswer identifier (now (payload .entry)) (length (now (line .entry))))) (payloadLine identifier (now (payload .entry))) (now (line .entry)) ⌝ }
+    ensures answer { λ r. ⌜ r ≡ pack (answerNumbers (makeAnswer (identifierOf identifier) (now (payload .entry)) (length (now (line .entry))))) ⌝ }
+    ensures memory { λ _. ⌜ now (line .exit) ≡ after (answerNumbers (makeAnswer (identifierOf identifier) (now (payload .entry)) (length (now (line .entry))))) (payloadLine (identifierOf identifier) (now (payload .entry))) (now (line .entry)) ⌝ }
 {
-    packing::answer(frame::make_frame(identifier, payload, line))
+    packing::answer(frame::make_frame(identifier::of(identifier), payload, line))
 }
 
 // Reads a line from a live bus: the identifier and the payload of its frame.

@@ -5,6 +5,7 @@ ghost use Rattle.refusals.specs.Table.{inTable, placeOf, answerNumbers};
 ghost use Rattle.frame.specs.Answers.{boundsNumbers};
 ghost use Rattle.line.specs.Read.{lineNumbers};
 ghost use Rattle.prushgoli.specs.Packing.{pack};
+use crate::identifier;
 use frame::Bounds;
 use line::Line;
 use refusals::Answer;
@@ -31,11 +32,11 @@ pub(crate) fn bounds(bounds: Bounds) -> u64
 }
 
 pub(crate) fn line(line: Line) -> u64
-    requires { ⌜ lineNumbers line .low < 2 ^ 16 ⌝ }
+    requires { ⌜ (lineNumbers line .low < 2 ^ 16) × (lineNumbers line .high < 2 ^ 32) ⌝ }
     ensures { λ r. ⌜ r ≡ pack (lineNumbers line) ⌝ }
 {
     match line {
-        Line::Frame { identifier, length } => pack(length, 0, identifier),
+        Line::Frame { length, identifier } => pack(length, 0, identifier::number(identifier)),
         Line::Refused(refusal) => refused(refusal),
     }
 }

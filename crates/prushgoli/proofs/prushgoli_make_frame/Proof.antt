@@ -9,6 +9,9 @@ use Rattle.prushgoli.proofs.Fits.{make-fits}
 use Rattle.prushgoli.proofs.prushgoli_make_frame.Statement.{statement}
 use Rattle.prushgoli.proofs.prushgoli_make_frame.Tie as tie
 
+of-requires : tie.Need-of-requires
+of-requires c κs = search needs
+
 make-frame-requires : tie.Need-make-frame-requires
 make-frame-requires c κs = search needs
 
@@ -20,11 +23,13 @@ same-length c = search needs
 
 returns : tie.Need-returns
 returns c =
-    let args = c .before .before .before .before .before .before .before .args in
+    let of = c .before .before .before .before .before in
+    let args = of .before .before .before .args in
     let called = c .before .before .before .make-frame in
-    same-packed answerNumbers (λ (a : Answer). after (answerNumbers a) (payloadLine (args .identifier) (args .payload .now)) (args .line .now)) (called .result)
-    _ _ _ (called .ensures .0) (c .answer .ensures) (called .ensures .1)
+    rw (of .of .ensures) at
+    (same-packed answerNumbers (λ (a : Answer). after (answerNumbers a) (payloadLine (of .of .result) (args .payload .now)) (args .line .now)) (called .result)
+    _ _ _ (called .ensures .0) (c .answer .ensures) (called .ensures .1))
 
 pub prushgoli-make-frame-spec : {M : Type 1} → statement M
 prushgoli-make-frame-spec =
-    tie.close (tie.spec make-frame-requires answer-requires same-length returns)
+    tie.close (tie.spec of-requires make-frame-requires answer-requires same-length returns)

@@ -12,7 +12,9 @@ read-requires : tie.Need-read-requires
 read-requires c κs = search needs
 
 line-requires : tie.Need-line-requires
-line-requires c κs = read-fits _ _ _ _ (c .before .before .read .ensures .0) .low
+line-requires c κs =
+    let fits = read-fits _ _ _ _ (c .before .before .read .ensures .0) in
+    (fits .low, fits .high)
 
 same-length : tie.Need-same-length
 same-length c = search needs
