@@ -25,6 +25,8 @@ use Rattle.field.specs.Field.{fieldOf}
 use Rattle.field.proofs.FieldBits.{field-length}
 use Rattle.decoding.specs.Decode.{decodeAnswer, payloadOf}
 use Rattle.decoding.proofs.RoundTrip.{field-of-payload}
+use Rattle.frame.specs.declared.Identifier.{Identifier}
+use Rattle.frame.specs.Identifier.{Allowed, roomFor, identifierOf}
 use Rattle.frame.specs.Answers.{payloadLine}
 use Rattle.line.specs.Ack.{withAck}
 use Rattle.scanning.specs.declared.Reading.{Reading}
@@ -96,11 +98,14 @@ module _ (reading : Reading) (line old after-it : List ℕ) (a : ℕ) (numbers :
   abbrev read : List ℕ
   read = take (told a .low) after-it
 
-  answered-line : readAnswer reading line (length old) ≡ Frame (told a .high) (told a .low)
-  answered-line = frame-told a numbers accepted
+  abbrev identifier : Identifier
+  identifier = identifierOf (told a .high)
 
-  coded : Coded reading line (length old) (told a .high) (told a .low)
-  coded = accepted-is-coded reading line (length old) (told a .high) (told a .low) answered-line
+  answered-line : readAnswer reading line (length old) ≡ Frame (told a .low) identifier
+  answered-line = frame-told reading line (length old) a numbers accepted
+
+  coded : Coded reading line (length old) identifier (told a .low)
+  coded = accepted-is-coded reading line (length old) identifier (told a .low) answered-line
 
   left-line : read ≡ payloadIn reading line
   left-line =
@@ -108,7 +113,7 @@ module _ (reading : Reading) (line old after-it : List ℕ) (a : ℕ) (numbers :
       ∙ taken (told a .low) (told a .high) (payloadIn reading line) old (coded .length-is)
 
   -- what is said of each reading alike
-  sized : (told a .high ≤ 2047) × (length read ≡ told a .low) × (told a .low ≤ 7) × Below 256 read
+  sized : Allowed identifier × (length read ≡ told a .low) × (told a .low ≤ 7) × Below 256 read
   sized = (coded .known, ap length left-line ∙ coded .length-is, coded .short, subst (Below 256) (sym left-line) (coded .bytes))
 
 -- reading our own line with the inputs i, its answer a, which is no refusal, the parameters s after it
@@ -122,14 +127,14 @@ module _ (κs : Lfts 2) (i : _) (a : ℕ) (s : _) (allowed : read-own-line.Learn
   own-told : told a ≡ lineNumbers (readAnswer own line (length (now (i .1 .0))))
   own-told = read-own-line-told κs i a s allowed
 
-  pub line-coded : (withAck 1 line ≡ payloadLine (told a .high) payload-read) × Below 2 line × (told a .high ≤ 2047)
+  pub line-coded : (withAck 1 line ≡ payloadLine (identifierOf (told a .high)) payload-read) × Below 2 line × Allowed (identifierOf (told a .high))
       × (length payload-read ≡ told a .low) × (told a .low ≤ 7) × Below 256 payload-read
   line-coded =
       let old = now (i .1 .0) in
       let c = coded own line old (now (s .1 .0)) a own-told (allowed .1) accepted in
       let left = left-line own line old (now (s .1 .0)) a own-told (allowed .1) accepted in
       let same = sized own line old (now (s .1 .0)) a own-told (allowed .1) accepted in (
-        coded-apart own line (length old) (told a .high) (told a .low) c ∙ ap (payloadLine (told a .high)) (sym left),
+        coded-apart own line (length old) (identifierOf (told a .high)) (told a .low) c ∙ ap (payloadLine (identifierOf (told a .high))) (sym left),
         c .line-below,
         same .0,
         same .1,
@@ -143,21 +148,21 @@ module _ (κs : Lfts 2) (i : _) (a : ℕ) (s : _) (allowed : read-own-line.Learn
 
   -- making a frame with the inputs j, its answer b, the parameters t after it
   pub line-again : (κs′ : Lfts 2) (j : _) (b : ℕ) (t : _) → make-frame.Learnt κs′ j b t → j .0 ≡ told a .high → now (j .1 .0) ≡ payload-read
-      → 116 ≤ length (now (j .1 .1 .0))
+      → roomFor (identifierOf (j .0)) ≤ length (now (j .1 .1 .0))
       → (told b .refusal ≡ 0) × (told b .low ≡ length line) × (now (t .1 .1 .0) ≡ withAck 1 line ++ drop (length line) (now (j .1 .1 .0)))
   line-again κs′ j b t also named handed room =
-      let whole = payloadLine (j .0) (now (j .1 .0)) in
+      let whole = payloadLine (identifierOf (j .0)) (now (j .1 .0)) in
       let old = now (j .1 .1 .0) in
-      let same : whole ≡ withAck 1 line = ap₂ payloadLine named handed ∙ sym (line-coded .0) in
+      let same : whole ≡ withAck 1 line = ap₂ payloadLine (ap identifierOf named) handed ∙ sym (line-coded .0) in
       let size : length whole ≡ length line = ap length same ∙ with-ack-length in
       let short : length (now (j .1 .0)) ≤ 7 = omega (arith, ap length handed, line-coded .3, line-coded .4) in
-      let e = made κs′ j b t also (omega (arith, named, line-coded .2)) short room in
+      let e = made κs′ j b t also (subst Allowed (sym (ap identifierOf named)) (line-coded .2)) short room in
       (e .0, e .1 ∙ size, e .2 ∙ ap₂ (λ (l : List ℕ) (k : ℕ). l ++ drop k old) same size)
 
 -- reading a line from a live bus with the inputs i, its answer a, which is no refusal, the parameters s after it
 pub heard-coded : (κs : Lfts 2) (i : _) (a : ℕ) (s : _) → read-line.Learnt κs i a s → told a .refusal ≡ 0 →
     let read = take (told a .low) (now (s .1 .0)) in
-    (now (i .0) ≡ withAck 0 (payloadLine (told a .high) read)) × (told a .high ≤ 2047)
+    (now (i .0) ≡ withAck 0 (payloadLine (identifierOf (told a .high)) read)) × Allowed (identifierOf (told a .high))
     × (length read ≡ told a .low) × (told a .low ≤ 7) × Below 256 read
 heard-coded κs i a s allowed accepted =
     let line = now (i .0) in
@@ -167,7 +172,7 @@ heard-coded κs i a s allowed accepted =
     let left = left-line acknowledged line old (now (s .1 .0)) a numbers (allowed .1) accepted in
     let same = sized acknowledged line old (now (s .1 .0)) a numbers (allowed .1) accepted in
     let none : c .ack ≡ 0 = omega (arith, c .slot) in (
-      c .line-is ∙ ap₂ (λ (ack : ℕ) (p : List ℕ). withAck ack (payloadLine (told a .high) p)) none (sym left),
+      c .line-is ∙ ap₂ (λ (ack : ℕ) (p : List ℕ). withAck ack (payloadLine (identifierOf (told a .high)) p)) none (sym left),
       same .0,
       same .1,
       same .2,

@@ -23,6 +23,8 @@ use Rattle.refusals.specs.declared.Refusal.the-variants.{NotAcknowledged}
 use Rattle.refusals.specs.Table.{numberOf, placeOf}
 use Rattle.refusals.proofs.Table.{refusal-only}
 use Rattle.field.specs.Field.{fieldOf}
+use Rattle.frame.specs.declared.Identifier.{Identifier}
+use Rattle.frame.specs.Identifier.{Allowed}
 use Rattle.frame.specs.Answers.{payloadLine}
 use Rattle.scanning.specs.Scan.{crcStart, right, verdict, runBehind, frameBehind}
 use Rattle.line.specs.Ack.{withAck}
@@ -31,15 +33,16 @@ use Rattle.line.specs.declared.Line.{Line}
 use Rattle.line.specs.declared.Line.the-variants.{Frame, Refused}
 use Rattle.line.proofs.AckSlot.{ack-found}
 use Rattle.line.proofs.FirstProblem.{twenty}
-use Rattle.line.proofs.ReadRefusals.{first-problem}
+use Rattle.line.proofs.ReadAnswers.{read-stopped}
+use Rattle.line.proofs.ReadRefusals.{bits-refused}
 use Rattle.line.proofs.RoundTrip.{Coded, own-ack, slot-holds, read-made, accepted-is-coded, coded-is-accepted, coded-apart}
 use Rattle.line.proofs.TwoReadings.{same-answer, not-acknowledged, own-never-20}
 
 -- ---- what is accepted
 
-pub heard-exactly : (line : List ℕ) (room identifier n : ℕ)
-    → readAnswer acknowledged line room ≡ Frame identifier n
-    ↔ (payload : List ℕ) × (line ≡ withAck 0 (payloadLine identifier payload)) × (identifier ≤ 2047) × Below 256 payload
+pub heard-exactly : (line : List ℕ) (room : ℕ) (identifier : Identifier) (n : ℕ)
+    → readAnswer acknowledged line room ≡ Frame n identifier
+    ↔ (payload : List ℕ) × (line ≡ withAck 0 (payloadLine identifier payload)) × Allowed identifier × Below 256 payload
     × (length payload ≡ n) × (n ≤ 7) × (n ≤ room)
 heard-exactly line room identifier n = (
   λ accepted.
@@ -50,17 +53,17 @@ heard-exactly line room identifier n = (
       (payload, is, c .known, c .bytes, c .length-is, c .short, c .fits),
   λ (payload, is, known, bytes, count, short, fits).
       coded-is-accepted acknowledged line room identifier payload 0 is (omega arith) known bytes (omega (arith, count, short)) (omega (arith, count, fits))
-      ∙ ap (Frame identifier) count,
+      ∙ ap (λ (k : ℕ). Frame k identifier) count,
 )
 
-pub heard-payload : (identifier : ℕ) (payload : List ℕ) → identifier ≤ 2047 → Below 256 payload → length payload ≤ 7
+pub heard-payload : (identifier : Identifier) (payload : List ℕ) → Allowed identifier → Below 256 payload → length payload ≤ 7
     → payloadIn acknowledged (withAck 0 (payloadLine identifier payload)) ≡ payload
 heard-payload identifier payload known bytes short =
     read-made acknowledged identifier payload 0 (length payload) known bytes short (omega arith) (omega arith) .1
 
-pub own-exactly : (line : List ℕ) (room identifier n : ℕ)
-    → readAnswer own line room ≡ Frame identifier n
-    ↔ (payload : List ℕ) × (withAck 1 line ≡ payloadLine identifier payload) × Below 2 line × (identifier ≤ 2047) × Below 256 payload
+pub own-exactly : (line : List ℕ) (room : ℕ) (identifier : Identifier) (n : ℕ)
+    → readAnswer own line room ≡ Frame n identifier
+    ↔ (payload : List ℕ) × (withAck 1 line ≡ payloadLine identifier payload) × Below 2 line × Allowed identifier × Below 256 payload
     × (length payload ≡ n) × (n ≤ 7) × (n ≤ room)
 own-exactly line room identifier n = (
   λ accepted.
@@ -70,7 +73,7 @@ own-exactly line room identifier n = (
       let slot = ack-found line (payloadLine identifier payload) is below in
       coded-is-accepted own line room identifier payload (slot .0) (slot .2) (omega (arith, slot .1)) known bytes
       (omega (arith, count, short)) (omega (arith, count, fits))
-      ∙ ap (Frame identifier) count,
+      ∙ ap (λ (k : ℕ). Frame k identifier) count,
 )
 
 -- ---- on every line the same, but for 20
@@ -92,7 +95,7 @@ module _ (line : List ℕ) (room : ℕ) where
 
 -- ---- the line of our maker, as it is
 
-module _ (identifier : ℕ) (payload : List ℕ) (known : identifier ≤ 2047) (bytes : Below 256 payload) (short : length payload ≤ 7) where
+module _ (identifier : Identifier) (payload : List ℕ) (known : Allowed identifier) (bytes : Below 256 payload) (short : length payload ≤ 7) where
   abbrev line : List ℕ
   line = payloadLine identifier payload
 
@@ -103,7 +106,7 @@ module _ (identifier : ℕ) (payload : List ℕ) (known : identifier ≤ 2047) (
       room : ℕ
       room = length payload
 
-      as-own : readAnswer own line room ≡ Frame identifier room
+      as-own : readAnswer own line room ≡ Frame room identifier
       as-own =
           ap (λ (l : List ℕ). readAnswer own l room) (sym (own-ack identifier payload))
           ∙ read-made own identifier payload 1 room known bytes short (omega arith) (omega arith) .0
@@ -115,7 +118,7 @@ module _ (identifier : ℕ) (payload : List ℕ) (known : identifier ≤ 2047) (
 
       go : (answer : Line) → readAnswer acknowledged line room ≡ answer
           → (place : ℕ) × (readAnswer acknowledged line room ≡ Refused (NotAcknowledged place))
-      go (Frame i n) e =
+      go (Frame n i) e =
           let coded = heard-exactly line room i n .0 e in
           let zero = ap (λ (l : List ℕ). getD l (length l - 9) 0) (coded .1) ∙ slot-holds i (fieldOf (coded .0)) 0 in
           absurd (omega (arith, one, zero))
@@ -132,8 +135,6 @@ module _ (identifier : ℕ) (payload : List ℕ) (known : identifier ≤ 2047) (
 
   pub made-unheard : (room : ℕ) → (place : ℕ) × (readAnswer acknowledged (payloadLine identifier payload) room ≡ Refused (NotAcknowledged place))
   made-unheard room =
-      let place = with-room .0 in (
-        place,
-        first-problem acknowledged line (length payload) (NotAcknowledged place) (with-room .1) line room (twenty place)
-            (λ e. absurd (omega (arith, e))) refl,
-      )
+      let place = with-room .0 in
+      let stop = bits-refused acknowledged line (length payload) (NotAcknowledged place) (with-room .1) (twenty place) in
+      (place, read-stopped acknowledged line room (stop .0) (NotAcknowledged place) (stop .1))

@@ -54,5 +54,5 @@ pub scan-passed : (reading : Reading) (line : List ℕ) (room : ℕ) →
 scan-passed reading line room = go (heldIn (scanned reading line)) refl
   where
     go : (h : Held) → heldIn (scanned reading line) ≡ h → 0 < heldNumbers h .refusal → lineNumbers (readAnswer reading line room) ≡ heldNumbers h
-    go (held.Frame identifier n field) e some = absurd (omega arith)
+    go (held.Frame n identifier field) e some = absurd (omega arith)
     go (held.Refused r) e some = ap lineNumbers (from-refused reading line room r e)

@@ -21,6 +21,7 @@ use Rattle.field.specs.Field.{fieldOf}
 use Rattle.field.specs.Encode.{encodeAnswer}
 use Rattle.field.specs.Coded.{fieldFrom}
 use Rattle.decoding.specs.Decode.{decodeAnswer, payloadOf}
+use Rattle.frame.specs.Identifier.{identifierOf}
 use Rattle.frame.specs.Answers.{payloadLine, makeAnswer}
 use Rattle.line.specs.Read.{acknowledged, own, readAnswer, payloadIn, lineNumbers}
 use Rattle.report.specs.Report.{lineAt, reportedNumbers}
@@ -90,8 +91,8 @@ pub c-make-frame-settled : (κs : Lfts 2)
     → SettledWith (c-make-frame.Asked κs) (c-make-frame.Learnt κs) (λ a. told a .refusal) (λ i. now (i .1 .1 .0)) (λ s. now (s .1 .1 .0))
 c-make-frame-settled κs =
     settled-with (λ i. tt) (λ i a s says. says) (λ i a is refused.
-    let answer = makeAnswer (i .0) (now (i .1 .0)) (length (now (i .1 .1 .0))) in
-    packed-old (answerNumbers answer) a (payloadLine (i .0) (now (i .1 .0))) (now (i .1 .1 .0)) (make-fits _ _ _ answer refl) is refused)
+    let answer = makeAnswer (identifierOf (i .0)) (now (i .1 .0)) (length (now (i .1 .1 .0))) in
+    packed-old (answerNumbers answer) a (payloadLine (identifierOf (i .0)) (now (i .1 .0))) (now (i .1 .1 .0)) (make-fits _ _ _ answer refl) is refused)
 
 pub c-frame-length-settled : (κs : Lfts 1) → Settled (c-frame-length.Asked κs) (c-frame-length.Learnt κs)
 c-frame-length-settled κs = settled (λ i. tt) (λ i a s says. says)

@@ -1,4 +1,5 @@
--- Demand 2: 8B9B as published, words by document 01's ordering rule; frames are CAN base data frames (ISO 11898-1). Given room, each
+-- Demand 2: 8B9B as published, words by document 01's ordering rule; frames are CAN data frames (ISO 11898-1), of the base form or, by
+-- change request #110, of the long one. Given room, each
 -- payload of 0 to 7 bytes comes back from its data field, and from its frame with its identifier. Each field or frame accepted is the
 -- one that coding gives, the ACK slot apart. Assumes nothing.
 --     words-ordered    258 words keep the rule, and stand in order
@@ -47,6 +48,8 @@ use Rattle.field.proofs.EncodeAnswers.{encode-accepts}
 use Rattle.decoding.specs.Decode.{decodeAnswer, payloadOf}
 use Rattle.decoding.proofs.RoundTrip.{payload-of-field, decode-encode, field-of-payload}
 use Rattle.crc.specs.Crc.{crc}
+use Rattle.frame.specs.declared.Identifier.{Identifier}
+use Rattle.frame.specs.Identifier.{Allowed, roomFor}
 use Rattle.frame.specs.Header.{header}
 use Rattle.frame.specs.Answers.{payloadLine, makeAnswer}
 use Rattle.frame.proofs.PayloadLine.{frame-is}
@@ -88,9 +91,9 @@ pub field-bits : (payload : List ℕ) → length payload ≤ 7 →
 unfolding fieldBits
 field-bits payload short = (bits-of-field payload short, refl)
 
--- ---- frames are CAN base data frames
+-- ---- frames are CAN data frames
 
-pub frame-bits : (identifier : ℕ) (payload : List ℕ) → length payload ≤ 7 →
+pub frame-bits : (identifier : Identifier) (payload : List ℕ) → length payload ≤ 7 →
     let headerBits = header identifier (fieldBytes (length payload)) in
     let check = crc (headerBits ++ fieldBits payload) in
     payloadLine identifier payload
@@ -110,7 +113,7 @@ field-left payload buffer short room =
           ∙ ap (λ (k : ℕ). fieldOf payload ++ drop k buffer) (field-length payload),
     )
 
-pub line-left : (identifier : ℕ) (payload buffer : List ℕ) → identifier ≤ 2047 → length payload ≤ 7 → 116 ≤ length buffer →
+pub line-left : (identifier : Identifier) (payload buffer : List ℕ) → Allowed identifier → length payload ≤ 7 → roomFor identifier ≤ length buffer →
     let line = payloadLine identifier payload in
     (makeAnswer identifier payload (length buffer) ≡ Length (length line))
     × (after (answerNumbers (makeAnswer identifier payload (length buffer))) line buffer ≡ line ++ drop (length line) buffer)
@@ -133,20 +136,21 @@ module _ (payload buffer buffer′ : List ℕ) (bytes : Below 256 payload) (shor
       (left, decoded, ap₂ (λ (a : Answer) (p : List ℕ). after (answerNumbers a) p buffer′) decoded carried)
 
   -- what the frame's length takes of the buffer that making leaves
-  abbrev left-of : ℕ → List ℕ
+  abbrev left-of : Identifier → List ℕ
   left-of identifier =
       let line = payloadLine identifier payload in
       take (length line) (after (answerNumbers (makeAnswer identifier payload (length buffer))) line buffer)
 
-  left-is : (identifier : ℕ) → identifier ≤ 2047 → 116 ≤ length buffer → left-of identifier ≡ payloadLine identifier payload
+  left-is : (identifier : Identifier) → Allowed identifier → roomFor identifier ≤ length buffer → left-of identifier ≡ payloadLine identifier payload
   left-is identifier known room =
       let whole = payloadLine identifier payload in
       ap (take (length whole)) (line-left identifier payload buffer known short room .1) ∙ take-at whole (drop (length whole) buffer) (length whole) refl
 
   -- what a reading gives of what making leaves, with a bit in the ACK slot that it takes
-  read-back : (reading : Reading) (identifier ack : ℕ) → identifier ≤ 2047 → ack ≤ slotMost (reading .slot) → 116 ≤ length buffer →
+  read-back : (reading : Reading) (identifier : Identifier) (ack : ℕ) → Allowed identifier → ack ≤ slotMost (reading .slot)
+      → roomFor identifier ≤ length buffer →
       let line = withAck ack (left-of identifier) in
-      (readAnswer reading line (length buffer′) ≡ Frame identifier (length payload))
+      (readAnswer reading line (length buffer′) ≡ Frame (length payload) identifier)
       × (after (lineNumbers (readAnswer reading line (length buffer′))) (payloadIn reading line) buffer′ ≡ payload ++ drop (length payload) buffer′)
   read-back reading identifier ack known slot room =
       let left = left-is identifier known room in
@@ -155,20 +159,20 @@ module _ (payload buffer buffer′ : List ℕ) (bytes : Below 256 payload) (shor
       let carried = ap (λ (l : List ℕ). payloadIn reading (withAck ack l)) left ∙ own .1 in
       (read, ap₂ (λ (a : Line) (p : List ℕ). after (lineNumbers a) p buffer′) read carried)
 
-  pub frame-back : (identifier ack : ℕ) → identifier ≤ 2047 → ack < 2 → 116 ≤ length buffer →
+  pub frame-back : (identifier : Identifier) (ack : ℕ) → Allowed identifier → ack < 2 → roomFor identifier ≤ length buffer →
       let made = left-of identifier in
       let line = withAck ack made in
       (withAck 1 made ≡ made)
-      × (readAnswer own line (length buffer′) ≡ Frame identifier (length payload))
+      × (readAnswer own line (length buffer′) ≡ Frame (length payload) identifier)
       × (after (lineNumbers (readAnswer own line (length buffer′))) (payloadIn own line) buffer′ ≡ payload ++ drop (length payload) buffer′)
   frame-back identifier ack known slot room =
       let left = left-is identifier known room in
       let read = read-back own identifier ack known (omega arith) room in
       (ap (withAck 1) left ∙ own-ack identifier payload ∙ sym left, read .0, read .1)
 
-  pub frame-heard : (identifier : ℕ) → identifier ≤ 2047 → 116 ≤ length buffer →
+  pub frame-heard : (identifier : Identifier) → Allowed identifier → roomFor identifier ≤ length buffer →
       let line = withAck 0 (left-of identifier) in
-      (readAnswer acknowledged line (length buffer′) ≡ Frame identifier (length payload))
+      (readAnswer acknowledged line (length buffer′) ≡ Frame (length payload) identifier)
       × (after (lineNumbers (readAnswer acknowledged line (length buffer′))) (payloadIn acknowledged line) buffer′ ≡ payload ++ drop (length payload) buffer′)
   frame-heard identifier known room = read-back acknowledged identifier 0 known (omega arith) room
 
@@ -178,8 +182,8 @@ pub field-accepted : (field : List ℕ) (room n : ℕ) → Below 256 field → d
     → (fieldOf (payloadOf field) ≡ field) × (length (payloadOf field) ≡ n) × (n ≤ 7) × Below 256 (payloadOf field)
 field-accepted = field-of-payload
 
-pub line-accepted : (line : List ℕ) (room identifier n : ℕ) → readAnswer own line room ≡ Frame identifier n
-    → (withAck 1 line ≡ payloadLine identifier (payloadIn own line)) × Below 2 line × (identifier ≤ 2047)
+pub line-accepted : (line : List ℕ) (room : ℕ) (identifier : Identifier) (n : ℕ) → readAnswer own line room ≡ Frame n identifier
+    → (withAck 1 line ≡ payloadLine identifier (payloadIn own line)) × Below 2 line × Allowed identifier
     × (length (payloadIn own line) ≡ n) × (n ≤ 7) × Below 256 (payloadIn own line)
 line-accepted line room identifier n accepted =
     let coded : Coded own line room identifier n = accepted-is-coded own line room identifier n accepted in

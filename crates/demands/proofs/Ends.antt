@@ -16,6 +16,7 @@ use Rattle.refusals.specs.After.{after}
 use Rattle.field.specs.Field.{fieldOf}
 use Rattle.field.specs.Encode.{encodeAnswer}
 use Rattle.decoding.specs.Decode.{decodeAnswer, payloadOf}
+use Rattle.frame.specs.Identifier.{identifierOf}
 use Rattle.frame.specs.Answers.{payloadLine, makeAnswer, lengthAnswer, boundsAnswer, boundsNumbers}
 use Rattle.line.specs.Read.{acknowledged, own, readAnswer, payloadIn, lineNumbers}
 use Rattle.prushgoli.specs.Packing.{pack}
@@ -46,22 +47,22 @@ pub c-decode-ends : (σ : Memory) (field payload : List ℕ) → Lendable field 
 c-decode-ends σ field payload ok ok′ = ends-writing c-decode-runs (λ κs i. tt) σ field payload ok ok′ (λ κs γ δ a s says. says)
 
 pub c-make-frame-ends : (σ : Memory) (identifier : ℕ) (payload line : List ℕ) → identifier < 2 ^ 32 → Lendable payload → Lendable line →
-    let answer = makeAnswer identifier payload (length line) in
+    let answer = makeAnswer (identifierOf identifier) payload (length line) in
     let σ₁ = beside σ payload in
     Ends c-make-frame.routine (vint w32 identifier ∷ slice σ payload ∷ slice σ₁ line ∷ []) (beside σ₁ line) (vint w64 (pack (answerNumbers answer)))
-    (λ σ′. Holds σ′ (length σ) 0 payload × Holds σ′ (length σ₁) 0 (after (answerNumbers answer) (payloadLine identifier payload) line))
+    (λ σ′. Holds σ′ (length σ) 0 payload × Holds σ′ (length σ₁) 0 (after (answerNumbers answer) (payloadLine (identifierOf identifier) payload) line))
 c-make-frame-ends σ identifier payload line fits ok ok′ =
     ends-writing (given c-make-frame-runs identifier fits) (λ κs i. tt) σ payload line ok ok′ (λ κs γ δ a s says. says)
 
 pub c-frame-length-ends : (σ : Memory) (identifier : ℕ) (payload : List ℕ) → identifier < 2 ^ 32 → Lendable payload →
-    let answer = lengthAnswer identifier payload in
+    let answer = lengthAnswer (identifierOf identifier) payload in
     Ends c-frame-length.routine (vint w32 identifier ∷ slice σ payload ∷ []) (beside σ payload) (vint w64 (pack (answerNumbers answer)))
     (λ σ′. Holds σ′ (length σ) 0 payload)
 c-frame-length-ends σ identifier payload fits ok =
     ends-reading (given c-frame-length-runs identifier fits) (λ κs i. tt) σ payload ok (λ κs γ a s says. says)
 
 pub c-frame-bounds-ends : (σ : Memory) (identifier size : ℕ) → identifier < 2 ^ 32 → size < 2 ^ 64 →
-    let answer = boundsAnswer identifier size in
+    let answer = boundsAnswer (identifierOf identifier) size in
     Ends c-frame-bounds.routine (vint w32 identifier ∷ vint w64 size ∷ []) σ (vint w64 (pack (boundsNumbers answer))) (λ σ′. Unit {0})
 c-frame-bounds-ends σ identifier size fits fits′ =
     ends-alone (given (given c-frame-bounds-runs identifier fits) size fits′) tt σ (λ a says. says)

@@ -1,7 +1,8 @@
 -- Demand 1, document 01's table of refusals as it stands: each is given exactly when. Of each call and each refusal that it can give,
 -- the condition right of ↔ is the document's, and before it what comes first in the call's order and must be right; the place is the
 -- refusal's own, else 0 (`placeOf`). Of each call too what it accepts, and with which length, and that it has no other refusals: the
--- numbers are in the call's order. Reading a line is in LineRefusals, the records of a trace in RecordsExactly. Assumes nothing.
+-- numbers are in the call's order. Which identifiers are allowed is in Forms, reading a line in LineRefusals, the records of a trace in
+-- RecordsExactly. Assumes nothing.
 --     encode-payload-long 1, encode-room-short 2, encode-accepted, encode-no-other
 --     decode-length-wrong 3, decode-room-short 2, decode-break-wrong 4, decode-escape 5, decode-no-word 6, decode-padding-wrong 7,
 --         decode-accepted, decode-no-other
@@ -30,6 +31,9 @@ use Rattle.decoding.specs.Parts.{sizeOf, breakPart, paddingPart, symbolsOf}
 use Rattle.decoding.specs.Decode.{decodeAnswer, payloadOf}
 use Rattle.decoding.proofs.DecodeAnswers as decoding
 use Rattle.decoding.proofs.DecodeGiven as decoded
+use Rattle.frame.specs.declared.Identifier.{Identifier}
+use Rattle.frame.specs.Identifier.{numberIn, greatest, Allowed, roomFor}
+use Rattle.frame.specs.Header.{header}
 use Rattle.frame.specs.StuffBits.{headerStuffBits}
 use Rattle.frame.specs.Answers.{payloadLine, makeAnswer, lengthAnswer, boundsAnswer}
 use Rattle.frame.specs.declared.Bounds.{Bounds}
@@ -128,7 +132,7 @@ module _ (field : List ℕ) (room : ℕ) where
 
 -- ---- making a frame: 8, 1, 2; its length: 8, 1
 
-module _ (identifier : ℕ) (payload : List ℕ) where
+module _ (identifier : Identifier) (payload : List ℕ) where
   -- how many bits are on the wire
   abbrev n : ℕ
   n = length (payloadLine identifier payload)
@@ -137,19 +141,19 @@ module _ (identifier : ℕ) (payload : List ℕ) where
     made : {a : Answer} → makeAnswer identifier payload room ≡ a → frame.Made identifier payload room a
     made e = subst (frame.Made identifier payload room) e (frame.make-given identifier payload room)
 
-    pub make-identifier-high : makeAnswer identifier payload room ≡ Refused refusal.Identifier ↔ 2047 < identifier
+    pub make-identifier-high : makeAnswer identifier payload room ≡ Refused refusal.Identifier ↔ greatest identifier < numberIn identifier
     make-identifier-high = (made, frame.make-identifier identifier payload room)
 
     pub make-payload-long :
-        makeAnswer identifier payload room ≡ Refused refusal.PayloadTooLong ↔ (identifier ≤ 2047) × (7 < length payload)
-    make-payload-long = (made, λ h. frame.make-long identifier payload room (h .0) (h .1))
+        makeAnswer identifier payload room ≡ Refused refusal.PayloadTooLong ↔ Allowed identifier × (7 < length payload)
+    make-payload-long = (made, λ h. frame.make-payload-long identifier payload room (h .0) (h .1))
 
     pub make-room-short :
-        makeAnswer identifier payload room ≡ Refused refusal.RoomShort ↔ (identifier ≤ 2047) × (length payload ≤ 7) × (room < 116)
+        makeAnswer identifier payload room ≡ Refused refusal.RoomShort ↔ Allowed identifier × (length payload ≤ 7) × (room < roomFor identifier)
     make-room-short = (made, λ h. frame.make-short identifier payload room (h .0) (h .1) (h .2))
 
     pub make-accepted : (k : ℕ)
-        → makeAnswer identifier payload room ≡ Length k ↔ (identifier ≤ 2047) × (length payload ≤ 7) × (116 ≤ room) × (k ≡ n)
+        → makeAnswer identifier payload room ≡ Length k ↔ Allowed identifier × (length payload ≤ 7) × (roomFor identifier ≤ room) × (k ≡ n)
     make-accepted k = (made, λ h. frame.make-accepts identifier payload room (h .0) (h .1) (h .2) ∙ ap Length (sym (h .3)))
 
     pub make-no-other : (r : Refusal) → makeAnswer identifier payload room ≡ Refused r → Among (8 ∷ 1 ∷ 2 ∷ []) (numberOf r)
@@ -158,14 +162,14 @@ module _ (identifier : ℕ) (payload : List ℕ) where
   reported : {a : Answer} → lengthAnswer identifier payload ≡ a → frame.LengthAnswered identifier payload a
   reported e = subst (frame.LengthAnswered identifier payload) e (frame.length-given identifier payload)
 
-  pub length-identifier-high : lengthAnswer identifier payload ≡ Refused refusal.Identifier ↔ 2047 < identifier
+  pub length-identifier-high : lengthAnswer identifier payload ≡ Refused refusal.Identifier ↔ greatest identifier < numberIn identifier
   length-identifier-high = (reported, frame.length-identifier identifier payload)
 
   pub length-payload-long :
-      lengthAnswer identifier payload ≡ Refused refusal.PayloadTooLong ↔ (identifier ≤ 2047) × (7 < length payload)
-  length-payload-long = (reported, λ h. frame.length-long identifier payload (h .0) (h .1))
+      lengthAnswer identifier payload ≡ Refused refusal.PayloadTooLong ↔ Allowed identifier × (7 < length payload)
+  length-payload-long = (reported, λ h. frame.length-payload-long identifier payload (h .0) (h .1))
 
-  pub length-accepted : (k : ℕ) → lengthAnswer identifier payload ≡ Length k ↔ (identifier ≤ 2047) × (length payload ≤ 7) × (k ≡ n)
+  pub length-accepted : (k : ℕ) → lengthAnswer identifier payload ≡ Length k ↔ Allowed identifier × (length payload ≤ 7) × (k ≡ n)
   length-accepted k = (reported, λ h. frame.length-accepts identifier payload (h .0) (h .1) ∙ ap Length (sym (h .2)))
 
   pub length-no-other : (r : Refusal) → lengthAnswer identifier payload ≡ Refused r → Among (8 ∷ 1 ∷ []) (numberOf r)
@@ -173,21 +177,22 @@ module _ (identifier : ℕ) (payload : List ℕ) where
 
 -- ---- asking for the bounds of an identifier and a size: 8, 1
 
-module _ (identifier size : ℕ) where
+module _ (identifier : Identifier) (size : ℕ) where
   bounded : {b : Bounds} → boundsAnswer identifier size ≡ b → bounding.Bounded identifier size b
   bounded e = subst (bounding.Bounded identifier size) e (bounding.bounds-given identifier size)
 
-  pub bounds-identifier-high : boundsAnswer identifier size ≡ bounds.Refused refusal.Identifier ↔ 2047 < identifier
+  pub bounds-identifier-high : boundsAnswer identifier size ≡ bounds.Refused refusal.Identifier ↔ greatest identifier < numberIn identifier
   bounds-identifier-high = (bounded, bounding.bounds-identifier identifier size)
 
-  pub bounds-size-high : boundsAnswer identifier size ≡ bounds.Refused refusal.PayloadTooLong ↔ (identifier ≤ 2047) × (7 < size)
-  bounds-size-high = (bounded, λ h. bounding.bounds-long identifier size (h .0) (h .1))
+  pub bounds-size-high : boundsAnswer identifier size ≡ bounds.Refused refusal.PayloadTooLong ↔ Allowed identifier × (7 < size)
+  bounds-size-high = (bounded, λ h. bounding.bounds-size-high identifier size (h .0) (h .1))
 
   pub bounds-accepted : (least most : ℕ) →
       let n = fieldBytes size in
+      let beside = length (header identifier n) + 25 in
       let h = headerStuffBits identifier n in
       boundsAnswer identifier size ≡ bounds.Between least most
-      ↔ (identifier ≤ 2047) × (size ≤ 7) × (least ≡ 44 + 8 * n + h) × (most ≡ 48 + 8 * n + h)
+      ↔ Allowed identifier × (size ≤ 7) × (least ≡ beside + 8 * n + h) × (most ≡ beside + 4 + 8 * n + h)
   bounds-accepted least most = (
     bounded,
     λ h.

@@ -1,9 +1,10 @@
 -- Document 01's worked cases that are to be proved, those marked *, as one statement over one list; those of bounds, which have no star;
--- its table by size; and the cases of change requests #102 and #109. Assumes nothing.
+-- its table by size; and the cases of change requests #102, #109 and #110. Assumes nothing.
 --     starred-right    what the definitions give in each case is what the document says
 --     bounds-right     the same of the bounds
 --     stuffed-crc-right    of frames whose CRC draws a stuff bit behind its last bit
 --     ack-slot-right   of lines read as our own and from a live bus
+--     forms-right      of both forms: bounds, frames of the long one, lines of it, and lines told at the bit before IDE
 --     table-right      and of the eight rows of the table
 use mathlib.Core.Path.{refl}
 use Rattle.bits.specs.Rows.{bits, number}
@@ -21,10 +22,10 @@ use Rattle.frame.specs.Header.{header}
 use Rattle.frame.specs.Line.{crcBits, stuffedRow, lineOf, frameLine}
 use Rattle.frame.specs.StuffBits.{stuffBitsIn, headerStuffBits}
 use Rattle.frame.specs.Answers.{lengthAnswer, boundsAnswer}
-use Rattle.scanning.specs.Form.{form}
-use Rattle.scanning.specs.Scan.{identifierIn, dlcIn, crcStart, complete, stuffDue, mustBe, shown, verdict, runWith, frameWith, scan, scanned}
+use Rattle.scanning.specs.Form.{headerForm, form}
+use Rattle.scanning.specs.Scan.{longIn, headerWidth, identifierIn, dlcIn, crcStart, complete, stuffDue, mustBe, shown, verdict, runWith, frameWith, scan, scanned}
 use Rattle.line.specs.Read.{fieldIn, readAnswer}
-use Rattle.demands.specs.Cases.{starred, ofBounds, ofStuffedCrc, ofAckSlot, bySize, AllRight}
+use Rattle.demands.specs.Cases.{starred, ofBounds, ofStuffedCrc, ofAckSlot, ofForms, bySize, AllRight}
 
 -- a case, and the others behind it
 infixr 5 _and_
@@ -45,8 +46,14 @@ unfolding bits number unpacked packed equalNeighbours words wordOf padding field
 stuffed-crc-right = (refl, refl, refl, refl) and refl and (refl, refl, refl, refl) and refl and (refl, refl, refl, refl) and (refl, refl, refl, refl) and tt
 
 pub ack-slot-right : AllRight ofAckSlot
-unfolding bits number unpacked packed equalNeighbours words wordOf placeIn symbolOf padding fieldBits fieldOf breakPart wordsPart paddingPart decodeAnswer stuffAfter runAfter stuffed header xor divide remainder crc crcBits stuffedRow lineOf frameLine form dlcIn crcStart complete stuffDue mustBe shown verdict runWith frameWith scan scanned identifierIn fieldIn readAnswer
+unfolding bits number unpacked packed equalNeighbours words wordOf placeIn symbolOf padding fieldBits fieldOf breakPart wordsPart paddingPart decodeAnswer stuffAfter runAfter stuffed header xor divide remainder crc crcBits stuffedRow lineOf frameLine headerForm form longIn headerWidth dlcIn crcStart complete stuffDue mustBe shown verdict runWith frameWith scan scanned identifierIn fieldIn readAnswer
 ack-slot-right = (refl, refl) and (refl, refl) and (refl, refl) and (refl, refl) and (refl, refl) and (refl, refl) and tt
+
+pub forms-right : AllRight ofForms
+unfolding bits number unpacked packed equalNeighbours words wordOf placeIn symbolOf padding fieldBits fieldOf breakPart wordsPart paddingPart decodeAnswer stuffAfter runAfter stuffed stuffCount runAfterRow header xor divide remainder crc crcBits stuffedRow lineOf frameLine stuffBitsIn headerStuffBits lengthAnswer boundsAnswer headerForm form longIn headerWidth dlcIn crcStart complete stuffDue mustBe shown verdict runWith frameWith scan scanned identifierIn fieldIn readAnswer
+forms-right =
+    refl and refl and refl and refl and refl and (refl, refl, refl, refl) and (refl, refl, refl, refl) and (refl, refl, refl, refl) and (refl, refl) and (refl, refl)
+    and (refl, refl) and (refl, refl) and (refl, refl) and (refl, refl) and (refl, refl) and (refl, refl) and (refl, refl) and (refl, refl) and tt
 
 pub table-right : AllRight bySize
 table-right = (refl, refl, refl, refl) and (refl, refl, refl, refl) and (refl, refl, refl, refl) and (refl, refl, refl, refl) and (refl, refl, refl, refl) and (refl, refl, refl, refl) and (refl, refl, refl, refl) and (refl, refl, refl, refl) and tt

@@ -12,21 +12,28 @@ use mathlib.Core.Logic.{_↔_}
 use Prim.Native.Nat.{ℕ}
 use contract.Lifetimes.{Lfts}
 use denote.Ref.{now}
+use mathlib.Core.List.{List}
 use lib.ListN.{length}
-use Rattle.refusals.specs.Table.{Numbers, answerNumbers}
+use Rattle.refusals.specs.Table.{Numbers, given, inTable, answerNumbers}
+use Rattle.refusals.specs.declared.Refusal.{Refusal}
 use Rattle.refusals.specs.declared.Answer.{Answer}
 use Rattle.refusals.specs.declared.Answer.the-variants.{Length, Refused}
 use Rattle.refusals.proofs.Table.{number-some}
 use Rattle.refusals.proofs.Answers.{answer-only}
 use Rattle.field.specs.Encode.{encodeAnswer}
 use Rattle.decoding.specs.Decode.{decodeAnswer}
+use Rattle.frame.specs.declared.Identifier.{Identifier}
+use Rattle.frame.specs.Identifier.{Allowed, numberForC, identifierOf}
 use Rattle.frame.specs.Answers.{makeAnswer, lengthAnswer, boundsAnswer, boundsNumbers}
 use Rattle.frame.specs.declared.Bounds.{Bounds}
+use Rattle.frame.proofs.Identifiers.{for-c-back, allowed-small}
 use Rattle.frame.proofs.BoundsAnswers.{bounds-only}
 use Rattle.line.specs.Read.{acknowledged, own, readAnswer, lineNumbers}
 use Rattle.line.specs.declared.Line.{Line}
 use Rattle.line.specs.declared.Line.the-variants as line
-use Rattle.line.proofs.ReadAnswers.{line-only}
+use Rattle.scanning.specs.declared.Reading.{Reading}
+use Rattle.line.proofs.ReadAnswers.{Bit31Free, line-only}
+use Rattle.line.proofs.Small.{read-free}
 use Rattle.prushgoli.specs.Packing.{told}
 use Rattle.prushgoli.proofs.Packed.{told-back}
 use Rattle.prushgoli.proofs.Fits.{encode-fits, decode-fits, length-fits, make-fits, bounds-fit, read-fits}
@@ -51,21 +58,21 @@ decode-told κs i a s allowed =
     ap told (allowed .0) ∙ told-back (answerNumbers answer) (decode-fits (now (i .0)) (length (now (i .1 .0))) answer refl)
 
 pub make-frame-told : (κs : Lfts 2) (i : _) (a : ℕ) (s : _) → make-frame.Learnt κs i a s
-    → told a ≡ answerNumbers (makeAnswer (i .0) (now (i .1 .0)) (length (now (i .1 .1 .0))))
+    → told a ≡ answerNumbers (makeAnswer (identifierOf (i .0)) (now (i .1 .0)) (length (now (i .1 .1 .0))))
 make-frame-told κs i a s allowed =
-    let answer = makeAnswer (i .0) (now (i .1 .0)) (length (now (i .1 .1 .0))) in
+    let answer = makeAnswer (identifierOf (i .0)) (now (i .1 .0)) (length (now (i .1 .1 .0))) in
     ap told (allowed .0) ∙ told-back (answerNumbers answer) (make-fits _ _ _ answer refl)
 
 pub frame-length-told : (κs : Lfts 1) (i : _) (a : ℕ) (s : _) → frame-length.Learnt κs i a s
-    → told a ≡ answerNumbers (lengthAnswer (i .0) (now (i .1 .0)))
+    → told a ≡ answerNumbers (lengthAnswer (identifierOf (i .0)) (now (i .1 .0)))
 frame-length-told κs i a s allowed =
-    let answer = lengthAnswer (i .0) (now (i .1 .0)) in
+    let answer = lengthAnswer (identifierOf (i .0)) (now (i .1 .0)) in
     ap told allowed ∙ told-back (answerNumbers answer) (length-fits _ _ answer refl)
 
 pub frame-bounds-told : (κs : Lfts 0) (i : _) (a : ℕ) (s : _) → frame-bounds.Learnt κs i a s
-    → told a ≡ boundsNumbers (boundsAnswer (i .0) (i .1 .0))
+    → told a ≡ boundsNumbers (boundsAnswer (identifierOf (i .0)) (i .1 .0))
 frame-bounds-told κs i a s allowed =
-    let answer = boundsAnswer (i .0) (i .1 .0) in
+    let answer = boundsAnswer (identifierOf (i .0)) (i .1 .0) in
     ap told allowed ∙ told-back (boundsNumbers answer) (bounds-fit _ _ answer refl)
 
 pub read-line-told : (κs : Lfts 2) (i : _) (a : ℕ) (s : _) → read-line.Learnt κs i a s
@@ -86,8 +93,18 @@ answer-exactly a is y = (λ read. answer-only _ y (sym is ∙ read), λ same. is
 pub bounds-exactly : {x : Bounds} (a : ℕ) → told a ≡ boundsNumbers x → (y : Bounds) → told a ≡ boundsNumbers y ↔ x ≡ y
 bounds-exactly a is y = (λ read. bounds-only _ y (sym is ∙ read), λ same. is ∙ ap boundsNumbers same)
 
-pub line-exactly : {x : Line} (a : ℕ) → told a ≡ lineNumbers x → (y : Line) → told a ≡ lineNumbers y ↔ x ≡ y
-line-exactly a is y = (λ read. line-only _ y (sym is ∙ read), λ same. is ∙ ap lineNumbers same)
+pub line-exactly : (reading : Reading) (bits : List ℕ) (room a : ℕ) → told a ≡ lineNumbers (readAnswer reading bits room)
+    → ((r : Refusal) → told a ≡ inTable r ↔ readAnswer reading bits room ≡ line.Refused r)
+    × ((n : ℕ) (identifier : Identifier) → Allowed identifier
+    → told a ≡ given n (numberForC identifier) ↔ readAnswer reading bits room ≡ line.Frame n identifier)
+line-exactly reading bits room a is = (
+  λ r. (λ read. line-only _ (line.Refused r) free tt (sym is ∙ read), λ same. is ∙ ap lineNumbers same),
+  λ n identifier known.
+      (λ read. line-only _ (line.Frame n identifier) free (allowed-small identifier known) (sym is ∙ read), λ same. is ∙ ap lineNumbers same),
+)
+  where
+    free : Bit31Free (readAnswer reading bits room)
+    free = read-free reading bits room
 
 pub length-told : {x : Answer} {n : ℕ} (a : ℕ) → told a ≡ answerNumbers x → x ≡ Length n → (told a .refusal ≡ 0) × (told a .low ≡ n)
 length-told a read is =
@@ -98,7 +115,12 @@ pub none-told : {x : Answer} (a : ℕ) → told a ≡ answerNumbers x → told a
 none-told {x = Length n} a read none = ap Length (ap (λ (x : Numbers). x .low) (sym read))
 none-told {x = Refused r} a read none = absurd (number-some r (sym none ∙ ap (λ (x : Numbers). x .refusal) read))
 
-pub frame-told : {x : Line} (a : ℕ) → told a ≡ lineNumbers x → told a .refusal ≡ 0 → x ≡ line.Frame (told a .high) (told a .low)
-frame-told {x = line.Frame identifier n} a read none =
-    ap₂ line.Frame (ap (λ (x : Numbers). x .high) (sym read)) (ap (λ (x : Numbers). x .low) (sym read))
-frame-told {x = line.Refused r} a read none = absurd (number-some r (sym none ∙ ap (λ (x : Numbers). x .refusal) read))
+pub frame-told : (reading : Reading) (bits : List ℕ) (room a : ℕ) → told a ≡ lineNumbers (readAnswer reading bits room) → told a .refusal ≡ 0
+    → readAnswer reading bits room ≡ line.Frame (told a .low) (identifierOf (told a .high))
+frame-told reading bits room a read none = go (readAnswer reading bits room) read (read-free reading bits room)
+  where
+    go : (x : Line) → told a ≡ lineNumbers x → Bit31Free x → x ≡ line.Frame (told a .low) (identifierOf (told a .high))
+    go (line.Frame n identifier) is free =
+        ap₂ line.Frame (ap (λ (x : Numbers). x .low) (sym is))
+        (sym (ap (λ (x : Numbers). identifierOf (x .high)) is ∙ for-c-back identifier free))
+    go (line.Refused r) is free = absurd (number-some r (sym none ∙ ap (λ (x : Numbers). x .refusal) is))

@@ -10,6 +10,7 @@ pub mod ForC
 pub mod Exactly
 pub mod LineRefusals
 pub mod Acknowledged
+pub mod Forms
 pub mod RecordsExactly
 pub mod ReportExactly
 pub mod Between

@@ -1,13 +1,16 @@
 -- Demand 1, reading a line: its bits from the left, and the first problem met is the answer; only then 2 and the data field's 4 to 7. Of
 -- every reading, so of both calls: `acknowledged` is that of read_line, `own` that of read_own_line. What is between these is in
 -- Acknowledged. Assumes nothing.
---     line-bits        3, 9 to 13 and 20 are given exactly when the verdict on the bit at that place, from the bits to its left, is this
+--     line-bits        3, 9 to 13 and 20 are given exactly when the verdict on the bit at some place, from the bits to its left, is this
 --                      refusal, or the line ends there and is no whole frame, 11; and the verdict on each bit to its left is right
+--     line-place       that is the refusal's own place; but a 13 may be met one or two places further on,
+--     line-before-ide  and then it is met at IDE, the frame's fourteenth bit, and its place is that of the thirteenth, which is not the same;
+--     line-not-ide     at its own place it is met at neither of the two: for IDE itself 13 is never given
 --     line-field       2 and 4 to 7 exactly when the line is that of a frame, with a bit in the ACK slot that the reading takes, whose data
 --                      field decoding refuses so
 --     line-no-other, own-no-other    no other refusals are given by the two calls: not 1, not 8, not 14; and 20 not by the second
 --     line-first       cut before the problem, the line is only too short
---     line-stays       nothing to the right of it is looked at; at the line's end, where 11 stands too, there is no bit to keep
+--     line-stays       nothing to the right of where it is met is looked at
 --     line-cut, line-longer    an accepted line, cut or with bits added: 11, place its length or the first bit too many
 --     line-decoded     the line of a frame, with a bit in the ACK slot that the reading takes, is answered as decoding its data field
 use mathlib.Core.Path.{_≡_, refl, ap, _∙_}
@@ -22,20 +25,23 @@ use Rattle.refusals.specs.Among.{Among}
 use Rattle.refusals.specs.Table.{numberOf, placeOf}
 use Rattle.refusals.specs.declared.Answer.the-variants as answer
 use Rattle.refusals.specs.declared.Refusal.{Refusal}
-use Rattle.refusals.specs.declared.Refusal.the-variants.{LineLength, NotAcknowledged}
+use Rattle.refusals.specs.declared.Refusal.the-variants.{LineLength, FixedBit, NotAcknowledged}
 use Rattle.refusals.proofs.Table.{refusal-only}
 use Rattle.refusals.proofs.Among.{among-first, among-last, among-split}
 use Rattle.decoding.specs.Decode.{decodeAnswer}
+use Rattle.frame.specs.declared.Identifier.{Identifier}
+use Rattle.frame.specs.Identifier.{Allowed}
 use Rattle.frame.specs.Line.{frameLine}
 use Rattle.scanning.specs.Scan.{slotMost, right, wrong, verdict, complete, runBehind, frameBehind, Verdict}
 use Rattle.scanning.specs.declared.Reading.{Reading}
 use Rattle.line.specs.Ack.{withAck}
 use Rattle.line.specs.Read.{acknowledged, own, withIdentifier, readAnswer}
 use Rattle.line.specs.declared.Line.the-variants.{Frame, Refused}
-use Rattle.line.proofs.FirstProblem.{bitNumbers}
+use Rattle.line.proofs.BeforeIde.{before-ide, fixed-elsewhere}
+use Rattle.line.proofs.FirstProblem.{bitNumbers, stopped-at, stopped-stays, cut-before}
 use Rattle.line.proofs.ProblemMet.{problem-met, right-before, problem-stops}
 use Rattle.line.proofs.ReadAnswers.{read-stopped}
-use Rattle.line.proofs.ReadRefusals.{fieldNumbers, read-numbers, bits-refused, first-problem, first-of-all, field-refused, refused-field, cut-line, longer-line}
+use Rattle.line.proofs.ReadRefusals.{fieldNumbers, read-numbers, bits-refused, field-refused, refused-field, cut-line, longer-line}
 use Rattle.line.proofs.RoundTrip.{read-frame}
 use Rattle.line.proofs.TwoReadings.{own-never-20}
 
@@ -56,39 +62,70 @@ module _ (reading : Reading) where
     abbrev frame : List ℕ
     frame = frameBehind nothingSent [] line
 
-    pub line-bits : OfBits refusal
-        → (readAnswer reading line room ≡ Refused refusal
-        ↔ (((place < length line) × (verdictAt place ≡ wrong refusal)) ⊎ ((refusal ≡ LineLength (length line)) × (complete frame ≡ false)))
-        × ((k : ℕ) → k < place → verdictAt k ≡ right))
+    -- the problem is met there: at one of the line's bits, or at its end
+    abbrev MetAt : ℕ → Type 0
+    MetAt met =
+        (((met < length line) × (verdictAt met ≡ wrong refusal))
+        ⊎ ((met ≡ length line) × (refusal ≡ LineLength (length line)) × (complete frame ≡ false)))
+        × ((k : ℕ) → k < met → verdictAt k ≡ right)
+
+    pub line-bits : OfBits refusal → (readAnswer reading line room ≡ Refused refusal ↔ (met : ℕ) × MetAt met)
     line-bits bits = (
       λ refused.
           let stop = bits-refused reading line room refusal refused bits in
-          (problem-met reading line refusal stop, right-before reading line refusal stop),
-      λ h. read-stopped reading line room refusal (problem-stops reading line refusal (h .0) (h .1)),
+          (stop .0, (problem-met reading line (stop .0) refusal (stop .1), right-before reading line (stop .0) refusal (stop .1))),
+      λ (met, (h, before)). read-stopped reading line room met refusal (problem-stops reading line met refusal h before),
     )
+
+    -- where it is met
+    pub line-place : (met : ℕ) → MetAt met → (place ≤ met) × (met ≤ place + 2) × (numberOf refusal ≢ 13 → place ≡ met)
+    line-place met (h, before) =
+        let stands = stopped-at reading line met refusal (problem-stops reading line met refusal h before) .stands in
+        (stands .not-behind, stands .near, stands .there)
 
     pub line-field : (OfBits refusal → ⊥)
         → (readAnswer reading line room ≡ Refused refusal
-        ↔ (identifier : ℕ) × (field : List ℕ) × (ack : ℕ) × (identifier ≤ 2047) × Below 256 field × (length field ≢ 1) × (length field ≤ 8)
+        ↔ (identifier : Identifier) × (field : List ℕ) × (ack : ℕ) × Allowed identifier × Below 256 field × (length field ≢ 1) × (length field ≤ 8)
         × (ack ≤ slotMost (reading .slot)) × (line ≡ withAck ack (frameLine identifier field)) × (decodeAnswer field room ≡ answer.Refused refusal))
     line-field other = (λ refused. field-refused reading line room refusal refused other, refused-field reading line room refusal)
 
-    module _ (refused : readAnswer reading line room ≡ Refused refusal) where
-      pub line-first : OfBits refusal → (k room′ : ℕ) → k < place → readAnswer reading (take k line) room′ ≡ Refused (LineLength k)
-      line-first bits k room′ = first-of-all reading line room refusal refused k room′ bits
+    pub line-first : (met : ℕ) → MetAt met → (k room′ : ℕ) → k < met → readAnswer reading (take k line) room′ ≡ Refused (LineLength k)
+    line-first met (h, before) k room′ early =
+        read-stopped reading (take k line) room′ k (LineLength k)
+        (cut-before reading line met refusal k (problem-stops reading line met refusal h before) early)
 
-      pub line-stays : OfBits refusal → (line′ : List ℕ) (room′ : ℕ) → (numberOf refusal ≡ 11 → place < length line)
-          → take (place + 1) line ≡ take (place + 1) line′ → readAnswer reading line′ room′ ≡ Refused refusal
-      line-stays bits line′ room′ = first-problem reading line room refusal refused line′ room′ bits
+    pub line-stays : (met : ℕ) → MetAt met → met < length line → (line′ : List ℕ) (room′ : ℕ) → take (met + 1) line ≡ take (met + 1) line′
+        → readAnswer reading line′ room′ ≡ Refused refusal
+    line-stays met (h, before) inside line′ room′ same =
+        read-stopped reading line′ room′ met refusal
+        (stopped-stays reading line line′ met refusal (problem-stops reading line met refusal h before) inside same)
 
-  module _ (line : List ℕ) (room room′ identifier n : ℕ) (accepted : readAnswer reading line room ≡ Frame identifier n) where
+  -- 13, whose place may be another than that where it is met
+  module _ (line : List ℕ) (room met : ℕ) where
+    -- the frame's bits among the first of a line
+    abbrev frameTo : ℕ → List ℕ
+    frameTo k = frameBehind nothingSent [] (take k line)
+
+    pub line-before-ide : (place : ℕ) → MetAt line room (FixedBit place) met → place ≢ met
+        → (place < met) × (met < length line) × (length (frameTo place) ≡ 12) × (length (frameTo (place + 1)) ≡ 13)
+        × (length (frameTo met) ≡ 13) × (length (frameTo (met + 1)) ≡ 14) × (getD line place 0 ≢ getD line met 0)
+    line-before-ide place (h, before) elsewhere =
+        let found = before-ide reading line met place (problem-stops reading line met (FixedBit place) h before) elsewhere in
+        (found .before, found .inside, found .bits-to, found .bits-with, found .ide-to, found .ide-with, found .differs)
+
+    pub line-not-ide : MetAt line room (FixedBit met) met → (length (frameTo met) ≢ 12) × (length (frameTo met) ≢ 13)
+    line-not-ide (h, before) =
+        let stop = problem-stops reading line met (FixedBit met) h before in
+        (λ e. fixed-elsewhere reading line met stop (inl e), λ e. fixed-elsewhere reading line met stop (inr e))
+
+  module _ (line : List ℕ) (room room′ : ℕ) (identifier : Identifier) (n : ℕ) (accepted : readAnswer reading line room ≡ Frame n identifier) where
     pub line-cut : (k : ℕ) → k < length line → readAnswer reading (take k line) room′ ≡ Refused (LineLength k)
     line-cut k = cut-line reading line room room′ identifier n k accepted
 
     pub line-longer : (bit : ℕ) (more : List ℕ) → readAnswer reading (line ++ (bit ∷ more)) room′ ≡ Refused (LineLength (length line))
     line-longer bit more = longer-line reading line room room′ identifier n bit more accepted
 
-  pub line-decoded : (identifier : ℕ) (field : List ℕ) (ack room : ℕ) → identifier ≤ 2047 → Below 256 field → length field ≤ 8
+  pub line-decoded : (identifier : Identifier) (field : List ℕ) (ack room : ℕ) → Allowed identifier → Below 256 field → length field ≤ 8
       → (length field ≡ 1 → ⊥) → ack ≤ slotMost (reading .slot)
       → readAnswer reading (withAck ack (frameLine identifier field)) room ≡ withIdentifier identifier (decodeAnswer field room)
   line-decoded = read-frame reading

@@ -22,7 +22,9 @@ use Rattle.field.specs.Field.{fieldOf}
 use Rattle.field.proofs.FieldBits.{field-length}
 use Rattle.decoding.specs.Decode.{decodeAnswer, payloadOf}
 use Rattle.decoding.proofs.RoundTrip.{payload-of-field, decode-encode}
+use Rattle.frame.specs.Identifier.{Allowed, roomFor, identifierOf}
 use Rattle.frame.specs.Answers.{payloadLine}
+use Rattle.frame.proofs.Identifiers.{from-c-back}
 use Rattle.scanning.specs.Scan.{slotMost}
 use Rattle.scanning.specs.declared.Reading.{Reading}
 use Rattle.line.specs.Ack.{withAck}
@@ -74,14 +76,14 @@ module _ (κs : Lfts 2) (i : _) (a : ℕ) (s : _) (allowed : encode.Learnt κs i
       (read .0, read .1, also .1 ∙ ap₂ (λ (x : Answer) (p : List ℕ). after (answerNumbers x) p old) answered carried)
 
 -- making with the inputs i, its answer a, the parameters s after it; identifier, payload and room are in order
-module _ (κs : Lfts 2) (i : _) (a : ℕ) (s : _) (allowed : make-frame.Learnt κs i a s) (known : i .0 ≤ 2047)
-    (short : length (now (i .1 .0)) ≤ 7) (room : 116 ≤ length (now (i .1 .1 .0))) where
+module _ (κs : Lfts 2) (i : _) (a : ℕ) (s : _) (allowed : make-frame.Learnt κs i a s) (known : Allowed (identifierOf (i .0)))
+    (short : length (now (i .1 .0)) ≤ 7) (room : roomFor (identifierOf (i .0)) ≤ length (now (i .1 .1 .0))) where
   abbrev line : List ℕ
-  line = payloadLine (i .0) (now (i .1 .0))
+  line = payloadLine (identifierOf (i .0)) (now (i .1 .0))
 
   pub made : (told a .refusal ≡ 0) × (told a .low ≡ length line) × (now (s .1 .1 .0) ≡ line ++ drop (length line) (now (i .1 .1 .0)))
   made =
-      let left = line-left (i .0) (now (i .1 .0)) (now (i .1 .1 .0)) known short room in
+      let left = line-left (identifierOf (i .0)) (now (i .1 .0)) (now (i .1 .1 .0)) known short room in
       let read = length-told a (make-frame-told κs i a s allowed) (left .0) in
       (read .0, read .1, allowed .1 ∙ left .1)
 
@@ -99,12 +101,12 @@ module _ (κs : Lfts 2) (i : _) (a : ℕ) (s : _) (allowed : make-frame.Learnt �
       let bytes = make-frame-bytes κs i called in
       let payload = now (i .1 .0) in
       let given = handed ∙ ap (withAck ack) line-stands in
-      let own = read-made reading (i .0) payload ack (length old) known bytes short fits slot in
+      let own = read-made reading (identifierOf (i .0)) payload ack (length old) known bytes short fits slot in
       let answered = ap (λ (l : List ℕ). readAnswer reading l (length old)) given ∙ own .0 in
       let carried = ap (payloadIn reading) given ∙ own .1 in
       let numbers = tells ∙ ap lineNumbers answered in (
         ap (λ (x : Numbers). x .refusal) numbers,
-        ap (λ (x : Numbers). x .high) numbers,
+        ap (λ (x : Numbers). x .high) numbers ∙ from-c-back (i .0),
         ap (λ (x : Numbers). x .low) numbers,
         leaves ∙ ap₂ (λ (x : Line) (p : List ℕ). after (lineNumbers x) p old) answered carried,
       )

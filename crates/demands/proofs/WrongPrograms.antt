@@ -14,6 +14,7 @@ use Rattle.field.specs.Sizes.{fieldBytes}
 use Rattle.field.specs.Field.{fieldOf}
 use Rattle.decoding.specs.Decode.{payloadOf}
 use Rattle.decoding.proofs.RoundTrip.{payload-of-field}
+use Rattle.frame.specs.Identifier.{Allowed, identifierOf}
 use Rattle.frame.specs.Answers.{payloadLine}
 use Rattle.frame.proofs.FrameAnswers.{length-accepts}
 use Rattle.prushgoli.specs.Packing.{told}
@@ -46,7 +47,7 @@ pub another-field : (κs κs′ : Lfts 2) (i j : _) (a b : ℕ) (s t : _) → en
 another-field κs κs′ i j a b s t allowed allowed′ called called′ short short′ fits fits′ same =
     sym (payload-carried κs i a s allowed short fits called) ∙ ap payloadOf same ∙ payload-carried κs′ j b t allowed′ short′ fits′ called′
 
-pub length-counted : (κs : Lfts 1) (i : _) (a : ℕ) (s : _) → frame-length.Learnt κs i a s → i .0 ≤ 2047 → length (now (i .1 .0)) ≤ 7
-    → (told a .refusal ≡ 0) × (told a .low ≡ length (payloadLine (i .0) (now (i .1 .0))))
+pub length-counted : (κs : Lfts 1) (i : _) (a : ℕ) (s : _) → frame-length.Learnt κs i a s → Allowed (identifierOf (i .0)) → length (now (i .1 .0)) ≤ 7
+    → (told a .refusal ≡ 0) × (told a .low ≡ length (payloadLine (identifierOf (i .0)) (now (i .1 .0))))
 length-counted κs i a s allowed known short =
-    length-told a (frame-length-told κs i a s allowed) (length-accepts (i .0) (now (i .1 .0)) known short)
+    length-told a (frame-length-told κs i a s allowed) (length-accepts (identifierOf (i .0)) (now (i .1 .0)) known short)
