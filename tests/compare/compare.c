@@ -14,7 +14,8 @@
 #include "second.h"
 
 enum { SECOND, ARCHIVE, PROGRAMS };
-enum { GUARD = 16, LENT = 128, BUFFER = GUARD + LENT + GUARD, MOST_DIFFERENCES = 10, REFUSALS = 32 };
+enum { GUARD = 16, LENT = 160, BUFFER = GUARD + LENT + GUARD, MOST_DIFFERENCES = 10, REFUSALS = 32 };
+enum { BASE, LONG, FORMS };
 
 static const char *const calls[CALLS] = {"encode",     "decode",    "frame_length", "frame_bounds",
                                          "make_frame", "read_line", "read_own_line"};
@@ -34,7 +35,7 @@ static const unsigned answers[CALLS] = {
     [READ_OWN_LINE] = OF_A_LINE,
 };
 
-static unsigned long comparisons, differences, reached[CALLS][REFUSALS];
+static unsigned long comparisons, differences, reached[CALLS][FORMS][REFUSALS];
 
 /* The question, and what the two programs did with it. */
 static struct question asked;
@@ -129,15 +130,16 @@ static const char *what_differs(void)
 static void print_answer(const char *name, uint64_t packed)
 {
     unsigned refusal = prushgoli_refusal(packed);
-    printf("  %-8s refusal %u, %s %u, identifier or longer bound %u\n", name, refusal,
-           refusal == 0 ? "length" : "place", (unsigned)(packed & 0xFFFF), (unsigned)(packed >> 32));
+    printf("  %-8s refusal %u, %s %u, identifier %08X or longer bound %u\n", name, refusal,
+           refusal == 0 ? "length" : "place", (unsigned)(packed & 0xFFFF), (unsigned)(packed >> 32),
+           (unsigned)(packed >> 32));
 }
 
 static void difference(const char *what)
 {
     size_t i = 0;
     printf("difference %lu: %s\n", ++differences, what);
-    printf("  %s, identifier %lu, room %zu%s, length %zu%s:", calls[asked.call], (unsigned long)asked.identifier,
+    printf("  %s, identifier %08lX, room %zu%s, length %zu%s:", calls[asked.call], (unsigned long)asked.identifier,
            asked.room, asked.lend_null ? " (NULL)" : "", asked.claimed, asked.given == NULL ? " (NULL)" : "");
     for (size_t byte = 0; byte < asked.there; byte++)
         printf(" %02X", asked.given[byte]);
@@ -164,17 +166,49 @@ static void touched(int signal_number)
     exit(close_comparison());
 }
 
-void compare(struct question question)
+/* Whether IDE chooses the long form in a line: it is read without a refusal, and is 1. */
+static int is_long_line(const uint8_t *line, size_t length)
+{
+    int run = 0, bits = 0;
+    for (size_t place = 0; place < length && line[place] <= 1 && line[0] == 0; place++) {
+        int is_equal = place > 0 && line[place] == line[place - 1], is_stuff_bit = run == 5;
+        if (is_stuff_bit && is_equal)
+            return 0;
+        run = is_equal ? run + 1 : 1;
+        bits += !is_stuff_bit;
+        if (bits == 14)
+            return line[place];
+    }
+    return 0;
+}
+
+/* A field has no form and counts as of the base form, and so does a line in which no IDE is read. */
+static int form_asked(void)
+{
+    switch (asked.call) {
+    case ENCODE:
+    case DECODE:
+        return BASE;
+    case READ_LINE:
+    case READ_OWN_LINE:
+        return is_long_line(asked.given, asked.there) ? LONG : BASE;
+    default:
+        return (asked.identifier & PRUSHGOLI_LONG) != 0 ? LONG : BASE;
+    }
+}
+
+uint64_t compare(struct question question)
 {
     if (differences >= MOST_DIFFERENCES)
         exit(close_comparison());
     asked = question;
     ask_both();
     comparisons++;
-    reached[asked.call][(answer[SECOND] >> 16) % REFUSALS]++;
+    reached[asked.call][form_asked()][(answer[SECOND] >> 16) % REFUSALS]++;
     const char *what = what_differs();
     if (what != NULL)
         difference(what);
+    return answer[SECOND];
 }
 
 void expect(struct question question, uint64_t expected, const uint8_t *result, size_t result_len)
@@ -195,18 +229,25 @@ void check(int holds, const char *fact)
         printf("difference %lu: it does not hold that %s\n", ++differences, fact);
 }
 
+static void check_reached_by(enum call call, const char *form, const unsigned long *count)
+{
+    printf("%s%-*s  accepted %lu, refused", calls[call], 19 - (int)strlen(calls[call]), form, count[0]);
+    for (int refusal = 0; refusal < REFUSALS; refusal++) {
+        if (refusal > 0 && count[refusal] > 0)
+            printf("  %d: %lu", refusal, count[refusal]);
+        if ((count[refusal] > 0) != (answers[call] >> refusal & 1))
+            printf("  (difference %lu: %d is %s)", ++differences, refusal,
+                   count[refusal] > 0 ? "no answer of the documents" : "never reached");
+    }
+    printf("\n");
+}
+
 static void check_reached(void)
 {
-    for (int call = 0; call < CALLS; call++) {
-        printf("%-13s  accepted %lu, refused", calls[call], reached[call][0]);
-        for (int refusal = 0; refusal < REFUSALS; refusal++) {
-            if (refusal > 0 && reached[call][refusal] > 0)
-                printf("  %d: %lu", refusal, reached[call][refusal]);
-            if ((reached[call][refusal] > 0) != (answers[call] >> refusal & 1))
-                printf("  (difference %lu: %d is %s)", ++differences, refusal,
-                       reached[call][refusal] > 0 ? "no answer of the documents" : "never reached");
-        }
-        printf("\n");
+    for (enum call call = 0; call < CALLS; call++) {
+        check_reached_by(call, "", reached[call][BASE]);
+        if (call != ENCODE && call != DECODE)
+            check_reached_by(call, ", long", reached[call][LONG]);
     }
 }
 

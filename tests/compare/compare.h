@@ -24,8 +24,8 @@ static inline struct question question(enum call call, uint32_t identifier, cons
     return (struct question){call, identifier, given, given == NULL ? 0 : length, length, room, 0};
 }
 
-/* Both programs must give the same answer and leave the same bytes. */
-void compare(struct question question);
+/* Both programs must give the same answer and leave the same bytes. The second program's answer is returned. */
+uint64_t compare(struct question question);
 
 /* The same, and both must give this answer and this result, which the documents say. */
 void expect(struct question question, uint64_t expected, const uint8_t *result, size_t result_len);

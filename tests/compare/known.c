@@ -77,13 +77,13 @@ static void both_refuse(struct slice line, enum refusal refusal, size_t place)
     refuses(READ_OWN_LINE, line, 8, refusal, place);
 }
 
-/* A line of identifier 0 that is right but for what is in its ACK slot: 0 is taken by both calls, 1 by one of them. */
-static void reads_as(struct slice line, struct slice payload)
+/* A line that is right but for what is in its ACK slot: 0 is taken by both calls, 1 by one of them. */
+static void reads_as(struct slice line, uint32_t identifier, struct slice payload)
 {
     size_t ack_slot = line.length - 9;
     for (uint8_t ack = 0; ack <= 1; ack++) {
         struct slice with_ack = with(line, ack_slot, ack);
-        uint64_t read = accepted(payload.length, 0), unheard = refused(NOT_ACKNOWLEDGED, ack_slot);
+        uint64_t read = accepted(payload.length, identifier), unheard = refused(NOT_ACKNOWLEDGED, ack_slot);
         expect(question(READ_LINE, 0, with_ack.byte, with_ack.length, payload.length), ack == 0 ? read : unheard,
                payload.byte, ack == 0 ? payload.length : 0);
         expect(question(READ_OWN_LINE, 0, with_ack.byte, with_ack.length, payload.length), read, payload.byte,
@@ -137,15 +137,90 @@ static void frames(void)
     expect(question(FRAME_LENGTH, 0, NULL, 0, 0), accepted(50, 0), NULL, 0);
     expect(question(MAKE_FRAME, 0, NULL, 0, 115), refused(ROOM_SHORT, 0), NULL, 0);
     expect(question(MAKE_FRAME, 0, NULL, 0, 116), accepted(50, 0), line.byte, 50);
-    reads_as(line, bytes(""));
+    reads_as(line, 0, bytes(""));
     bounds(0x555, 1, accepted(61, 65));
     bounds(0x555, 7, accepted(108, 112));
     bounds(0, 1, accepted(63, 67));
     bounds(0, 0, accepted(47, 51));
     bounds(0x558, 0, accepted(46, 50));
-    bounds(2048, 1, refused(IDENTIFIER_TOO_LARGE, 0));
-    bounds(2048, 8, refused(IDENTIFIER_TOO_LARGE, 0));
     bounds(0, SIZE_MAX, refused(PAYLOAD_TOO_LONG, 0));
+}
+
+/* Where the size or the room is refused, the identifier was not. */
+static void takes_identifier(uint32_t identifier, size_t room)
+{
+    struct slice payload = bytes("0000000000000000");
+    bounds(identifier, 8, refused(PAYLOAD_TOO_LONG, 0));
+    expect(question(FRAME_LENGTH, identifier, payload.byte, 8, 0), refused(PAYLOAD_TOO_LONG, 0), NULL, 0);
+    expect(question(MAKE_FRAME, identifier, payload.byte, 8, room), refused(PAYLOAD_TOO_LONG, 0), NULL, 0);
+    expect(question(MAKE_FRAME, identifier, payload.byte, 7, room - 1), refused(ROOM_SHORT, 0), NULL, 0);
+    check(compare(question(MAKE_FRAME, identifier, payload.byte, 7, room)) >> 16 == 0, "this room is enough");
+}
+
+/* 8 comes before 1 and 2. */
+static void refuses_identifier(uint32_t identifier)
+{
+    struct slice payload = bytes("0000000000000000");
+    for (size_t size = 0; size <= 8; size += 8) {
+        uint64_t answer = refused(IDENTIFIER_TOO_LARGE, 0);
+        bounds(identifier, size, answer);
+        expect(question(FRAME_LENGTH, identifier, payload.byte, size, 0), answer, NULL, 0);
+        expect(question(MAKE_FRAME, identifier, payload.byte, size, 0), answer, NULL, 0);
+        expect(question(MAKE_FRAME, identifier, payload.byte, size, 141), answer, NULL, 0);
+    }
+}
+
+/* The greatest identifier of each form and the next number; bit 31 alone is identifier 0 of the long form. */
+static void limits(void)
+{
+    takes_identifier(0, 116);
+    takes_identifier(2047, 116);
+    takes_identifier(LONG_FORM, 141);
+    takes_identifier(LONG_FORM | 2047, 141);
+    takes_identifier(LONG_FORM | 2048, 141);
+    takes_identifier(LONG_FORM | 536870911, 141);
+    refuses_identifier(2048);
+    refuses_identifier(536870911);
+    refuses_identifier(536870912);
+    refuses_identifier(0x7FFFFFFF);
+    refuses_identifier(LONG_FORM | 536870912);
+    refuses_identifier(LONG_FORM | 0x40000000);
+    refuses_identifier(0xFFFFFFFF);
+}
+
+static void frame_is(uint32_t identifier, struct slice payload, size_t room, struct slice line)
+{
+    expect(question(FRAME_LENGTH, identifier, payload.byte, payload.length, 0), accepted(line.length, 0), NULL, 0);
+    expect(question(MAKE_FRAME, identifier, payload.byte, payload.length, room - 1), refused(ROOM_SHORT, 0), NULL, 0);
+    expect(question(MAKE_FRAME, identifier, payload.byte, payload.length, room), accepted(line.length, 0), line.byte,
+           line.length);
+    reads_as(line, identifier, payload);
+}
+
+/* The same number in both forms; a long identifier of 0s, of 1s, and one with a stuff bit between SRR and IDE. */
+static void long_frames(void)
+{
+    frame_is(0x555, bytes("F0"), 116,
+             bits("0 10101010101 0 0 0 00 1 10  1 110101001 010101  01011111 0 1001011  1 1 1 1111111"));
+    frame_is(LONG_FORM | 0x555, bytes("F0"), 141,
+             bits("00000 1 00000 1 00 1 1 00000 1 0010101010101 0 00 00 1 10  1 110101001 010101  110101100100011  "
+                  "1 1 1 1111111"));
+    frame_is(LONG_FORM, bytes(""), 141,
+             bits("00000 1 00000 1 00 1 1 00000 1 00000 1 00000 1 000 0 0 1 0 0000 1  100011000010000  1 1 1 1111111"));
+    frame_is(LONG_FORM | 0x1FFFFFFF, bytes("FF"), 141,
+             bits("0 11111 0 11111 0 1 1 1 11 0 11111 0 11111 0 11111 0 1 0 00 00 1 10  1 110111100 010101  "
+                  "011100101101001  1 1 1 1111111"));
+    frame_is(LONG_FORM | 0x153C1234, bytes("F0"), 141,
+             bits("0 10101001111 1 0 1 00000 1 1001000110100 0 00 1 0010  1 110101001 010101  1011111 0 0000 1 0101  "
+                  "1 1 1 1111111"));
+    bounds(LONG_FORM, 0, accepted(71, 75));
+    bounds(LONG_FORM, 1, accepted(86, 90));
+    bounds(LONG_FORM | 0x1FFFFFFF, 0, accepted(71, 75));
+    bounds(LONG_FORM | 0x1FFFFFFF, 1, accepted(87, 91));
+    bounds(LONG_FORM | 0x15555555, 1, accepted(81, 85));
+    bounds(LONG_FORM | 0x15555555, 7, accepted(128, 132));
+    bounds(LONG_FORM | 0xC3C3C, 0, accepted(73, 77)); /* nine stuff bits in the header, and no header has more */
+    bounds(LONG_FORM | 0xC3C3C, 7, accepted(136, 140));
 }
 
 static void lines(void)
@@ -156,6 +231,49 @@ static void lines(void)
     both_refuse(bits("0 0 0 0 0"), WRONG_LINE_LENGTH, 5);
     both_refuse(bits("1"), WRONG_FIXED_BIT, 0);
     both_refuse(bits("2"), LINE_BYTE_ABOVE_1, 0);
+}
+
+/* RTR or SRR is judged once IDE is read: where a stuff bit is due between them, where none is, and where one is due
+ * before both or behind both. */
+static void bits_before_ide(void)
+{
+    both_refuse(bits("0 10101001111 1"), WRONG_LINE_LENGTH, 13);
+    both_refuse(bits("0 10101001111 1 2"), LINE_BYTE_ABOVE_1, 13);
+    both_refuse(bits("0 10101001111 1 1"), SIXTH_EQUAL_BIT, 13);
+    both_refuse(bits("0 10101001111 1 0"), WRONG_LINE_LENGTH, 14);
+    both_refuse(bits("0 10101001111 1 0 2"), LINE_BYTE_ABOVE_1, 14);
+    both_refuse(bits("0 10101001111 1 0 0"), WRONG_FIXED_BIT, 12);
+    both_refuse(bits("0 10101001111 1 0 1"), WRONG_LINE_LENGTH, 15);
+    both_refuse(bits("0 10101010000 0 0"), SIXTH_EQUAL_BIT, 13);
+    both_refuse(bits("0 10101010000 0 1 1"), WRONG_FIXED_BIT, 12);
+    both_refuse(bits("0 10101010000 0 1 0"), WRONG_LINE_LENGTH, 15);
+    both_refuse(bits("0 10101001111 0 1"), WRONG_FIXED_BIT, 12);
+    both_refuse(bits("0 10101010101 0 1"), WRONG_FIXED_BIT, 12);
+    both_refuse(bits("0 10101010101 1 0"), WRONG_FIXED_BIT, 12);
+    both_refuse(bits("0 10101010101 1"), WRONG_LINE_LENGTH, 13);
+    both_refuse(bits("0 10101010101 1 2"), LINE_BYTE_ABOVE_1, 13);
+    both_refuse(bits("0 10101010101 1 1"), WRONG_LINE_LENGTH, 14);
+    both_refuse(bits("0 10101011111 0 1 0"), WRONG_FIXED_BIT, 13);
+    both_refuse(bits("0 10101011111 0 0 1"), WRONG_FIXED_BIT, 13);
+    both_refuse(bits("0 10101000111 1 1 1"), SIXTH_EQUAL_BIT, 14);
+    both_refuse(bits("0 10101000111 1 0 1"), WRONG_FIXED_BIT, 12);
+    both_refuse(bits("0 10101011000 0 1 2"), WRONG_FIXED_BIT, 12);
+}
+
+/* What stands behind IDE in the long form: RTR is at 32, the reserved bits at 33 and 34, five 0s end at 36. */
+static void long_lines(void)
+{
+    both_refuse(bits("0 10101010101 1 1 010101010101010101 1"), WRONG_FIXED_BIT, 32);
+    both_refuse(bits("0 10101010101 1 1 010101010101010101 0 1"), WRONG_FIXED_BIT, 33);
+    both_refuse(bits("0 10101010101 1 1 010101010101010101 0 0 1"), WRONG_FIXED_BIT, 34);
+    both_refuse(bits("0 10101010101 1 1 010101010101010101 0 0"), WRONG_LINE_LENGTH, 34);
+    both_refuse(bits("0 10101010101 1 1 010101010101010101 0 0 2"), LINE_BYTE_ABOVE_1, 34);
+    both_refuse(bits("0 10101010101 1 1 010101010101010101 0 00 00 0"), SIXTH_EQUAL_BIT, 37);
+    both_refuse(bits("0 10101010101 1 1 010101010101010101 0 00 00 1 01"), WRONG_FIELD_LENGTH, 39);
+    both_refuse(bits("0 10101010101 1 1 010101010101010101 0 00 1001"), WRONG_FIELD_LENGTH, 38);
+    both_refuse(bits("0 10101010101 1 1 010101010101001111 1"), WRONG_FIXED_BIT, 32);
+    both_refuse(bits("0 10101010101 1 1 010101010101010000 0 0"), SIXTH_EQUAL_BIT, 33);
+    both_refuse(bits("0 10101010101 1 1 010101010101010000 0 1 1"), WRONG_FIXED_BIT, 34);
 }
 
 /* A line that is refused behind its ACK slot: with 1 there, the default call says so first. */
@@ -195,7 +313,7 @@ static void stuffed_behind_the_crc(struct slice payload, struct slice line)
     struct slice wrong_crc = with(line, 34, !line.byte[34]); /* a data bit, in no run of five either way */
     expect(question(FRAME_LENGTH, 0, payload.byte, 1, 0), accepted(65, 0), NULL, 0);
     expect(question(MAKE_FRAME, 0, payload.byte, 1, 116), accepted(65, 0), line.byte, 65);
-    reads_as(line, payload);
+    reads_as(line, 0, payload);
     refuses(READ_OWN_LINE, line, 0, ROOM_SHORT, 0);
     refuses(READ_LINE, line, 0, NOT_ACKNOWLEDGED, 56);
     both_refuse(cut(line, 54), WRONG_LINE_LENGTH, 54);
@@ -225,16 +343,18 @@ static void last_stuff_bits(void)
     both_refuse(with(missing, 55, 0), WRONG_FIXED_BIT, 55); /* its ACK slot stands where a delimiter must */
 }
 
-/* 115 bits: three stuff bits in the header, four in the CRC, the last of them behind it. */
-static void longest_frame(void)
+/* 115 bits, with three stuff bits in the header, and 140 bits in the long form, with eight; both have four in the CRC,
+ * the last of them behind it. */
+static void longest_frames(void)
 {
-    struct slice payload = bytes("000000000082A6");
     struct slice line = bits("00000 1 00000 1 00000 1 1000  1 001000011 001000011 001000011 001000011 001000011 "
                              "100001011 100111011  111 0 0000 1 1111 0 0000 1  1 1 1 1111111");
-    expect(question(FRAME_LENGTH, 0, payload.byte, 7, 0), accepted(115, 0), NULL, 0);
-    expect(question(MAKE_FRAME, 0, payload.byte, 7, 115), refused(ROOM_SHORT, 0), NULL, 0);
-    expect(question(MAKE_FRAME, 0, payload.byte, 7, 116), accepted(115, 0), line.byte, 115);
-    reads_as(line, payload);
+    struct slice long_line = bits("00000 1 00000 1 11 1 1 0 0000 1 1111 0 0000 1 1111 0 00 0 0 1 0 1000  "
+                                  "1 001101011 010111001 010110001 100001100 110110110 101001011 101010100  "
+                                  "000 1 1111 0 0000 1 1111 0  1 1 1 1111111");
+    check(line.length == 115 && long_line.length == 140, "the longest frames have 115 bits and 140 bits");
+    frame_is(0, bytes("000000000082A6"), 116, line);
+    frame_is(LONG_FORM | 0xC3C3C, bytes("1E524C83FBB0B7"), 141, long_line);
 }
 
 static void crc(void)
@@ -250,9 +370,13 @@ void ask_known(void)
     words();
     fields();
     frames();
+    limits();
+    long_frames();
     lines();
+    bits_before_ide();
+    long_lines();
     ack_slots();
     last_stuff_bits();
-    longest_frame();
+    longest_frames();
     crc();
 }

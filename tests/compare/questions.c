@@ -1,4 +1,5 @@
 /* The questions: all small payloads, fields, identifiers and rows of bits, and many more from a fixed seed. */
+#include "answer.h"
 #include "compare.h"
 #include "field.h"
 #include "frame.h"
@@ -15,11 +16,16 @@ static const size_t large[] = {
     ((size_t)1 << 32) + 3, ((size_t)1 << 32) + 8, (size_t)1 << 63, SIZE_MAX - 7, SIZE_MAX,
 };
 
-/* FEW of them are identifiers, which stuff the header in many ways; the others are refused. */
-enum { FEW = 15 };
+/* Identifiers that stuff the header in many ways: FEW of the base form, then MORE of the long form, one of them with
+ * as many stuff bits as there can be, the last with one before SRR, before IDE or behind it. The others are refused. */
+enum { FEW = 15, MORE = 25 };
 static const uint32_t identifiers[] = {
-    0, 1, 0x00F, 0x03E, 0x07C, 0x0F8, 0x1F0, 0x3E0, 0x400, 0x555, 0x558, 0x7C0, 0x7DF, 0x7FE, 2047, 2048, 2049, 4095,
-    4096, 65535, 65536, 65541, 0x1FFFFFFF, 0x40000000, 0x80000000, 0x80000005, 0xFFFFF800, UINT32_MAX,
+    0, 1, 0x00F, 0x03E, 0x07C, 0x0F8, 0x1F0, 0x3E0, 0x400, 0x555, 0x558, 0x7C0, 0x7DF, 0x7FE, 2047,
+    0x80000000, 0x80000001, 0x80000005, 0x800007FF, 0x80000800, 0x8003FFFF, 0x80040000, 0x80155555, 0x87C1F07C,
+    0x8F0F0F0F, 0x90F0F0F0, 0x9555AAAA, 0x95555555, 0x97C3E1F0, 0x9E000000, 0x9FFC0000, 0x9FFFF800, 0x9FFFFFFE,
+    0x9FFFFFFF, 0x800C3C3C, 0x957D0000, 0x953C1234, 0x953FFFFF, 0x951C0000, 0x951FFFFF,
+    2048, 2049, 4095, 4096, 65535, 65536, 65541, 0x1FFFFFFF, 0x20000000, 0x40000000, 0x40000005, 0x7FFFF800, 0x7FFFFFFF,
+    0xA0000000, 0xA0000001, 0xA0000005, 0xBFFFFFFF, 0xC0000000, 0xC0000005, 0xE0000000, 0xFFFFF800, UINT32_MAX,
 };
 
 static void random_bytes(uint8_t *byte, size_t count)
@@ -34,14 +40,37 @@ static size_t random_room(void)
     return random_below(8) == 0 ? random_below(9) : 7 + random_below(3);
 }
 
+/* In half of them a bit is mostly like the one before it: they draw many stuff bits. */
+static uint32_t random_long(void)
+{
+    uint32_t number = 0, bit = 0;
+    if (random_below(2) == 0)
+        return LONG_FORM | (uint32_t)random_below(MOST_LONG + 1);
+    for (int i = 0; i < 29; i++) {
+        bit ^= random_below(4) == 0;
+        number = number << 1 | bit;
+    }
+    return LONG_FORM | number;
+}
+
+/* Of either form. */
 static uint32_t random_identifier(void)
 {
-    return random_below(8) == 0 ? identifiers[random_below(FEW)] : (uint32_t)random_below(2048);
+    if (random_below(8) == 0)
+        return identifiers[random_below(FEW + MORE)];
+    return random_below(2) == 0 ? (uint32_t)random_below(MOST_BASE + 1) : random_long();
 }
 
 static uint32_t random_identifier_or_more(void)
 {
     return random_below(32) == 0 ? identifiers[random_below(COUNT(identifiers))] : random_identifier();
+}
+
+/* One in eight is too short, often by a byte. */
+static size_t random_line_room(uint32_t identifier)
+{
+    size_t enough = frame_room(identifier);
+    return random_below(8) > 0 ? enough : random_below(2) == 0 ? enough - 1 : random_below(enough);
 }
 
 static struct row row_of(const uint8_t *byte, size_t count)
@@ -52,16 +81,16 @@ static struct row row_of(const uint8_t *byte, size_t count)
     return row;
 }
 
-/* Both calls that read a line are asked. */
-static void ask_readers(const struct row *line, size_t claimed, size_t room, int lend_null)
+/* Both calls that read a line are asked; the answer is that of the one for our own lines. */
+static uint64_t ask_readers(const struct row *line, size_t claimed, size_t room, int lend_null)
 {
-    for (enum call call = READ_LINE; call <= READ_OWN_LINE; call++)
-        compare((struct question){call, 0, line->bit, line->length, claimed, room, lend_null});
+    compare((struct question){READ_LINE, 0, line->bit, line->length, claimed, room, lend_null});
+    return compare((struct question){READ_OWN_LINE, 0, line->bit, line->length, claimed, room, lend_null});
 }
 
-static void read_row(const struct row *line, size_t room)
+static uint64_t read_row(const struct row *line, size_t room)
 {
-    ask_readers(line, line->length, room, 0);
+    return ask_readers(line, line->length, room, 0);
 }
 
 /* A whole line as the maker leaves it, with 1 in the ACK slot, or as a receiver on the bus does, with 0. */
@@ -141,32 +170,51 @@ static void random_payloads_and_fields(void)
         random_bytes(payload, size);
         compare(question(ENCODE, 0, payload, size, random_room()));
         compare(question(FRAME_LENGTH, identifier, payload, size, 0));
-        compare(question(MAKE_FRAME, identifier, payload, size, random_below(8) == 0 ? random_below(116) : 116));
+        compare(question(MAKE_FRAME, identifier, payload, size, random_line_room(identifier)));
     }
 }
 
-/* All identifiers by all sizes, by each room that matters, and by all DLCs. */
+/* An identifier by all sizes, and by each room that matters in one form or the other. */
+static void ask_frames(uint32_t identifier)
+{
+    static const size_t rooms[] = {115, 116, 117, 140, 141, 142};
+    uint8_t byte[8];
+    for (size_t size = 0; size <= 8; size++) {
+        random_bytes(byte, size);
+        compare(question(FRAME_LENGTH, identifier, byte, size, 0));
+        compare(question(FRAME_BOUNDS, identifier, NULL, size, 0));
+        for (size_t i = 0; i < COUNT(rooms); i++)
+            compare(question(MAKE_FRAME, identifier, byte, size, rooms[i]));
+    }
+}
+
+/* The lines of an identifier, of all sizes and with all DLCs, some of them cut at the header's end. */
+static void ask_lines(uint32_t identifier)
+{
+    uint8_t byte[8];
+    random_bytes(byte, sizeof byte);
+    for (size_t size = 0; size <= MOST_PAYLOAD; size++) {
+        struct row line = line_of_payload(identifier, byte, size);
+        read_with_either_ack(&line, size);
+    }
+    for (unsigned dlc = 0; dlc <= 15; dlc++) {
+        struct row field = row_of(byte, dlc < 8 ? dlc : 8), line = line_of(identifier, dlc, &field);
+        read_with_either_ack(&line, random_room());
+        line.length = header_of(identifier, dlc).length - 5 + random_below(10);
+        read_row(&line, random_room());
+    }
+}
+
+/* All identifiers of the base form; the same numbers in the long form; all eleven high bits of a long one. */
 static void all_identifiers(void)
 {
-    for (uint32_t identifier = 0; identifier <= MOST_IDENTIFIER; identifier++) {
-        uint8_t byte[8];
-        for (size_t size = 0; size <= 8; size++) {
-            random_bytes(byte, size);
-            compare(question(FRAME_LENGTH, identifier, byte, size, 0));
-            compare(question(FRAME_BOUNDS, identifier, NULL, size, 0));
-            for (size_t room = 115; room <= 117; room++)
-                compare(question(MAKE_FRAME, identifier, byte, size, room));
-        }
-        for (size_t size = 0; size <= MOST_PAYLOAD; size++) {
-            struct row line = line_of_payload(identifier, byte, size);
-            read_with_either_ack(&line, size);
-        }
-        for (unsigned dlc = 0; dlc <= 15; dlc++) {
-            struct row field = row_of(byte, dlc < 8 ? dlc : 8), line = line_of(identifier, dlc, &field);
-            read_with_either_ack(&line, random_room());
-            line.length = 14 + random_below(10);
-            read_row(&line, random_room());
-        }
+    for (uint32_t number = 0; number <= MOST_BASE; number++) {
+        uint32_t by_high_bits = LONG_FORM | number << LOW_BITS | (random_long() & ((1U << LOW_BITS) - 1));
+        ask_frames(number);
+        ask_lines(number);
+        ask_frames(LONG_FORM | number);
+        ask_frames(by_high_bits);
+        ask_lines(by_high_bits);
     }
 }
 
@@ -222,18 +270,17 @@ static void ask_around(struct row line)
         }
 }
 
-/* Lines of all sizes with payloads of 00, of FF and of any bytes, and with either ACK. */
+/* Lines of all sizes and both forms, with payloads of 00, of FF and of any bytes, with one ACK or the other. */
 static void changed_lines(void)
 {
     for (size_t size = 0; size <= MOST_PAYLOAD; size++)
-        for (int i = 0; i < 21; i++) {
+        for (int i = 0; i < FEW + MORE + 3; i++) {
             uint8_t payload[MOST_PAYLOAD];
             random_bytes(payload, size);
             for (size_t byte = 0; byte < size && i % 3 < 2; byte++)
                 payload[byte] = i % 3 == 0 ? 0x00 : 0xFF;
-            struct row line = line_of_payload(i < FEW ? identifiers[i] : random_identifier(), payload, size);
-            for (int ack = 0; ack <= 1; ack++)
-                ask_around(with_ack(line, ack));
+            struct row line = line_of_payload(i < FEW + MORE ? identifiers[i] : random_identifier(), payload, size);
+            ask_around(with_ack(line, (i + (int)size) % 2));
         }
 }
 
@@ -289,7 +336,7 @@ static void last_stuff_bits(void)
         struct row line = with_ack(stuffed_behind_the_crc(&identifier, payload, size), i / (MOST_PAYLOAD + 1) % 2);
         size_t stuff_bit = line.length - 11, delimiter = stuff_bit + 1;
         compare(question(FRAME_LENGTH, identifier, payload, size, 0));
-        compare(question(MAKE_FRAME, identifier, payload, size, 116));
+        compare(question(MAKE_FRAME, identifier, payload, size, frame_room(identifier)));
         for (size_t place = stuff_bit - 1; place <= delimiter + 1; place++)
             for (int change = 0; change < CHANGES; change++) {
                 struct row other = changed(line, change, place), twice = changed(other, FLIP, random_below(place));
@@ -316,10 +363,40 @@ static void random_lines(void)
     }
 }
 
-/* All rows of up to 14 bits, and rows of any bytes 0, 1 and 2. */
+/* The first bits of a header as they are sent, then each row of up to so many bytes. Counts the answers of 13 for the
+ * first of these, by whether a stuff bit is due behind it. */
+static void ask_behind(struct row header, size_t bits, int most, unsigned long *refused_13)
+{
+    header.length = bits;
+    struct row sent = stuffed(&header);
+    for (int count = 0; count <= most; count++)
+        for (unsigned which = 0; which >> 2 * count == 0; which++) {
+            struct row line = sent;
+            for (int i = 0; i < count; i++)
+                append(&line, bytes[which >> 2 * i & 3]);
+            uint64_t answer = read_row(&line, random_room());
+            if (answer == refused(WRONG_FIXED_BIT, sent.length))
+                refused_13[all_equal(line.bit + sent.length - 4, 5)]++;
+        }
+}
+
+/* Behind all eleven bits that stand before RTR or SRR: that bit, a stuff bit if one is due, IDE. Behind some long
+ * identifiers: RTR, the reserved bits, a stuff bit if one is due. */
+static void fixed_header_bits(void)
+{
+    unsigned long before_ide[2] = {0}, long_rtr[2] = {0};
+    for (uint32_t number = 0; number <= MOST_BASE; number++)
+        ask_behind(header_of(number, 0), 12, 3, before_ide);
+    for (int i = 0; i < 200; i++)
+        ask_behind(header_of(random_long(), 0), 32, 4, long_rtr);
+    check(before_ide[0] > 0 && before_ide[1] > 0, "RTR or SRR is refused without and with a stuff bit before IDE");
+    check(long_rtr[0] > 0 && long_rtr[1] > 0, "the long form's RTR is refused without and with a stuff bit behind it");
+}
+
+/* All rows of up to 16 bits, and rows of any bytes 0, 1 and 2. */
 static void any_rows(void)
 {
-    for (int width = 0; width <= 14; width++)
+    for (int width = 0; width <= 16; width++)
         for (unsigned number = 0; number >> width == 0; number++) {
             struct row line = {.length = 0};
             append_number(&line, number, width);
@@ -327,7 +404,7 @@ static void any_rows(void)
         }
     for (int i = 0; i < 50000; i++) {
         struct row line = {.length = 0};
-        for (uint64_t length = random_below(130); line.length < length;)
+        for (uint64_t length = random_below(160); line.length < length;)
             append(&line, (int)random_below(3));
         read_row(&line, random_room());
     }
@@ -337,14 +414,16 @@ static void any_rows(void)
 static void large_numbers(void)
 {
     static const uint8_t byte[8] = {0x90, 0xC8, 0x64, 0x32, 0x19, 0x0C, 0x86, 0x43};
+    static const uint32_t edges[] = {MOST_BASE, MOST_BASE + 1, LONG_FORM | MOST_LONG, LONG_FORM | (MOST_LONG + 1)};
     struct row field = row_of(byte, 8), line = with_ack(line_of(0x555, 8, &field), 0);
+    struct row long_line = with_ack(line_of(LONG_FORM | 0x555, 8, &field), 0);
     for (size_t l = 0; l < COUNT(large); l++) {
-        size_t claimed = large[l], longer = claimed > SIZE_MAX / 2 ? claimed : line.length + claimed;
-        for (uint32_t identifier = 2047; identifier <= 2048; identifier++) {
-            compare((struct question){FRAME_LENGTH, identifier, byte, 8, claimed, 0, 0});
-            compare((struct question){MAKE_FRAME, identifier, byte, 8, claimed, 116, 0});
-            compare((struct question){MAKE_FRAME, identifier, byte, 8, claimed, 0, 0});
-            compare(question(MAKE_FRAME, identifier, byte, 7, claimed));
+        size_t claimed = large[l], longer = claimed > SIZE_MAX / 2 ? claimed : long_line.length + claimed;
+        for (size_t i = 0; i < COUNT(edges); i++) {
+            compare((struct question){FRAME_LENGTH, edges[i], byte, 8, claimed, 0, 0});
+            compare((struct question){MAKE_FRAME, edges[i], byte, 8, claimed, 141, 0});
+            compare((struct question){MAKE_FRAME, edges[i], byte, 8, claimed, 0, 0});
+            compare(question(MAKE_FRAME, edges[i], byte, 7, claimed));
         }
         compare((struct question){ENCODE, 0, byte, 8, claimed, 8, 0});
         compare((struct question){ENCODE, 0, byte, 8, claimed, 0, 0});
@@ -354,6 +433,8 @@ static void large_numbers(void)
         compare(question(DECODE, 0, byte, 8, claimed));
         ask_readers(&line, longer, 8, 0);
         read_row(&line, claimed);
+        ask_readers(&long_line, longer, 8, 0);
+        read_row(&long_line, claimed);
     }
 }
 
@@ -362,17 +443,21 @@ static void nulls(void)
 {
     static const uint8_t byte[2] = {0xEA, 0x55};
     struct row field = row_of(byte, 2), empty = {.length = 0}, line = with_ack(line_of(0, 2, &field), 0);
-    struct row empty_line = with_ack(line_of(0, 0, &empty), 0);
+    struct row empty_line = with_ack(line_of(0, 0, &empty), 0), long_line = with_ack(line_of(LONG_FORM, 0, &empty), 0);
     for (int call = 0; call < CALLS; call++)
         for (int lend_null = 0; lend_null <= 1; lend_null++) {
-            size_t room = lend_null ? 0 : 116;
-            compare((struct question){call, 0, NULL, 0, 0, room, lend_null});
-            compare((struct question){call, 0, byte, 0, 0, room, lend_null});
-            compare((struct question){call, 0, byte, 2, 2, room, lend_null});
-            compare((struct question){call, 2048, NULL, 0, 0, room, lend_null});
+            size_t room = lend_null ? 0 : 141;
+            for (int is_long = 0; is_long <= 1; is_long++) {
+                uint32_t least = is_long ? LONG_FORM : 0, too_large = least + (is_long ? MOST_LONG : MOST_BASE) + 1;
+                compare((struct question){call, least, NULL, 0, 0, room, lend_null});
+                compare((struct question){call, least, byte, 0, 0, room, lend_null});
+                compare((struct question){call, least, byte, 2, 2, room, lend_null});
+                compare((struct question){call, too_large, NULL, 0, 0, room, lend_null});
+            }
         }
     ask_readers(&line, line.length, 0, 1);
     ask_readers(&empty_line, empty_line.length, 0, 1);
+    ask_readers(&long_line, long_line.length, 0, 1);
 }
 
 void ask_many(void)
@@ -380,12 +465,13 @@ void ask_many(void)
     nulls();
     large_numbers();
     all_bounds();
-    all_identifiers();
-    any_rows();
-    changed_lines();
-    ack_slots();
-    last_stuff_bits();
     small_payloads_and_fields();
+    fixed_header_bits();
+    last_stuff_bits();
+    ack_slots();
+    changed_lines();
+    any_rows();
+    all_identifiers();
     random_payloads_and_fields();
     random_lines();
 }

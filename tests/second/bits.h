@@ -5,9 +5,11 @@
 #include <stddef.h>
 #include <stdint.h>
 
-/* 160 cells hold the longest line, 132 bits when the data field may be any eight bytes. */
+/* These cells hold the longest line, 157 bits when the form is the long one and the data field any eight bytes, and a
+ * few bits more. */
+enum { CELLS = 176 };
 struct row {
-    uint8_t bit[160];
+    uint8_t bit[CELLS];
     size_t length;
 };
 

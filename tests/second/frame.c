@@ -5,16 +5,46 @@
 #include "field.h"
 #include "second.h"
 
-enum { FRAME_ROOM = 116 };
+static int is_long(uint32_t identifier)
+{
+    return (identifier & LONG_FORM) != 0;
+}
 
-static struct row header_of(uint32_t identifier, unsigned dlc)
+/* The identifier as a number, without the bit that says its form. */
+static uint32_t number_of(uint32_t identifier)
+{
+    return identifier & ~LONG_FORM;
+}
+
+size_t frame_room(uint32_t identifier)
+{
+    return is_long(identifier) ? 141 : 116;
+}
+
+static void append_base(struct row *header, uint32_t number)
+{
+    append_number(header, number, 11);
+    append(header, 0); /* RTR */
+    append(header, 0); /* IDE */
+    append(header, 0); /* reserved bit */
+}
+
+static void append_long(struct row *header, uint32_t number)
+{
+    append_number(header, number >> LOW_BITS, 11);
+    append(header, 1); /* SRR */
+    append(header, 1); /* IDE */
+    append_number(header, number, LOW_BITS);
+    append(header, 0); /* RTR */
+    append(header, 0); /* reserved bit */
+    append(header, 0); /* reserved bit */
+}
+
+struct row header_of(uint32_t identifier, unsigned dlc)
 {
     struct row header = {.length = 0};
     append(&header, 0); /* start of frame */
-    append_number(&header, identifier, 11);
-    append(&header, 0); /* RTR */
-    append(&header, 0); /* IDE */
-    append(&header, 0); /* reserved bit */
+    (is_long(identifier) ? append_long : append_base)(&header, number_of(identifier));
     append_number(&header, dlc, 4);
     return header;
 }
@@ -32,8 +62,7 @@ unsigned crc_of(struct row bits)
     return number_at(&bits, length, CRC);
 }
 
-/* A row as it is sent: after five equal bits, stuff bits among them, comes one of the other value. */
-static struct row stuffed(const struct row *bits)
+struct row stuffed(const struct row *bits)
 {
     struct row sent = {.length = 0};
     for (size_t i = 0; i < bits->length; i++) {
@@ -58,7 +87,7 @@ struct row line_of(uint32_t identifier, unsigned dlc, const struct row *field)
 
 static enum refusal frame_refusal(uint32_t identifier, size_t payload_len)
 {
-    if (identifier > MOST_IDENTIFIER)
+    if (number_of(identifier) > (is_long(identifier) ? MOST_LONG : MOST_BASE))
         return IDENTIFIER_TOO_LARGE;
     return payload_len > MOST_PAYLOAD ? PAYLOAD_TOO_LONG : NO_REFUSAL;
 }
@@ -77,7 +106,8 @@ uint64_t second_frame_length(uint32_t identifier, const uint8_t *payload, size_t
     return accepted(line_of_payload(identifier, payload, payload_len).length, 0);
 }
 
-/* 44 + 8n + h and 48 + 8n + h, where h stuff bits belong to the header, one after its last bit included. */
+/* 44 + 8n + h and 48 + 8n + h, in the long form 64 and 68, where h stuff bits belong to the header, one after its last
+ * bit included. */
 uint64_t second_frame_bounds(uint32_t identifier, size_t payload_len)
 {
     enum refusal refusal = frame_refusal(identifier, payload_len);
@@ -85,8 +115,8 @@ uint64_t second_frame_bounds(uint32_t identifier, size_t payload_len)
         return refused(refusal, 0);
     size_t n = field_bytes(payload_len);
     struct row header = header_of(identifier, (unsigned)n);
-    size_t h = stuffed(&header).length - HEADER;
-    return accepted(44 + 8 * n + h, 48 + 8 * n + h);
+    size_t h = stuffed(&header).length - header.length;
+    return is_long(identifier) ? accepted(64 + 8 * n + h, 68 + 8 * n + h) : accepted(44 + 8 * n + h, 48 + 8 * n + h);
 }
 
 uint64_t second_make_frame(uint32_t identifier, const uint8_t *payload, size_t payload_len, uint8_t *line,
@@ -95,7 +125,7 @@ uint64_t second_make_frame(uint32_t identifier, const uint8_t *payload, size_t p
     enum refusal refusal = frame_refusal(identifier, payload_len);
     if (refusal != NO_REFUSAL)
         return refused(refusal, 0);
-    if (line_room < FRAME_ROOM)
+    if (line_room < frame_room(identifier))
         return refused(ROOM_SHORT, 0);
     struct row made = line_of_payload(identifier, payload, payload_len);
     for (size_t i = 0; i < made.length; i++)

@@ -1,5 +1,5 @@
-/* The second program: document 01 as #102 and #109 of 02 have it, once more, in plain C, with one array cell for each
- * bit. The calls have the parameters and the packed answer of prushgoli.h, so that both can be asked the same. */
+/* The second program: document 01 as #102, #109 and #110 of 02 have it, once more, in plain C, with one array cell for
+ * each bit. The calls have the parameters and the packed answer of prushgoli.h, so that both can be asked the same. */
 #ifndef SECOND_H
 #define SECOND_H
 
