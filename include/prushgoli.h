@@ -1,6 +1,7 @@
 /*
  * Prushgoli: CAN data fields in 8B9B. Codes a payload of 0 to 7 bytes into a data field that needs no stuff bit, and
- * back; makes and reads the whole line of bits of a CAN base data frame (11-bit identifier); tells frame lengths.
+ * back; makes and reads the whole line of bits of a CAN data frame, of the base form (11-bit identifier) and of the
+ * long form (29-bit identifier); tells frame lengths.
  *
  * Every call takes every input, and its answer is one number:
  *
@@ -17,6 +18,14 @@
  *         complain(prushgoli_reason(prushgoli_refusal(a)), prushgoli_place(a));
  *     else
  *         transmit(field, prushgoli_length(a));
+ *
+ * An identifier says its form, in every call that takes or gives one:
+ *
+ *     base form    the number, 0 to 2047
+ *     long form    PRUSHGOLI_LONG | the number, 0 to 536,870,911
+ *
+ * The same number in the two forms makes two identifiers, and two frames. The bit is that of Linux's can_id: the can_id
+ * of a data frame is an identifier as it is; with its bit for remote or error frames it is refused with 8.
  *
  * What holds of every call:
  *   - A refusal leaves every lent buffer with its old bytes. On success only the bytes of the result are written, at
@@ -38,9 +47,13 @@
 extern "C" {
 #endif
 
-#define PRUSHGOLI_PAYLOAD_MOST 7 /* bytes of the longest payload */
-#define PRUSHGOLI_FIELD_MOST 8   /* bytes of the longest field */
-#define PRUSHGOLI_LINE_ROOM 116  /* room that making a frame needs, a byte for each bit */
+#define PRUSHGOLI_PAYLOAD_MOST 7     /* bytes of the longest payload */
+#define PRUSHGOLI_FIELD_MOST 8       /* bytes of the longest field */
+#define PRUSHGOLI_LINE_ROOM 116      /* room that making a frame of the base form needs, a byte for each bit */
+#define PRUSHGOLI_LONG_LINE_ROOM 141 /* room that making one of the long form needs; enough for both forms */
+
+/* Bit 31 of an identifier: it has the long form, and the other bits are its number. */
+#define PRUSHGOLI_LONG UINT32_C(0x80000000)
 
 /* The refusals, each with its place. Places in a line count its bits from 0, stuff bits included. */
 enum {
@@ -52,12 +65,12 @@ enum {
     PRUSHGOLI_ESCAPE = 5,           /* an escape where a byte must be: number of the word, from 0 */
     PRUSHGOLI_NO_WORD = 6,          /* nine bits that are no word: number of the word, from 0 */
     PRUSHGOLI_PADDING = 7,          /* padding other than 0, 1, 0, 1 and so on: 0 */
-    PRUSHGOLI_IDENTIFIER = 8,       /* identifier above 2047: 0 */
+    PRUSHGOLI_IDENTIFIER = 8,       /* identifier above 2047, in the long form above 536,870,911: 0 */
     PRUSHGOLI_LINE_BYTE = 9,        /* a line byte above 1: that bit */
     PRUSHGOLI_STUFF_BIT = 10,       /* sixth equal bit where a stuff bit is due: that bit */
     PRUSHGOLI_LINE_LENGTH = 11,     /* line ends too early: its length; bits after the last end bit: first of them */
     PRUSHGOLI_CRC = 12,             /* CRC differs: last CRC bit */
-    PRUSHGOLI_FIXED_BIT = 13,       /* start, RTR, IDE, reserved bit, a delimiter or an end bit is wrong: that bit */
+    PRUSHGOLI_FIXED_BIT = 13,       /* start, RTR, SRR, reserved bit, a delimiter or an end bit is wrong: that bit */
     PRUSHGOLI_RECORD = 14,          /* trace record of unknown kind, or its body cut: offset of its kind byte */
     PRUSHGOLI_NOT_ACKNOWLEDGED = 20 /* a 1 in the ACK slot, nobody heard the frame: that bit */
 };
@@ -88,8 +101,8 @@ uint64_t prushgoli_frame_length(uint32_t identifier, const uint8_t *payload, siz
 
 /*
  * Tells between which two lengths, in bits, every frame lies that has this identifier and a payload of payload_len
- * bytes: prushgoli_least and prushgoli_most, 44 + 8n + h and 48 + 8n + h with n field bytes and h stuff bits in the
- * header. No payload is asked for. A bound need not be reached.
+ * bytes: prushgoli_least and prushgoli_most, 44 + 8n + h and 48 + 8n + h, in the long form 64 + 8n + h and 68 + 8n + h,
+ * with n field bytes and h stuff bits in the header. No payload is asked for. A bound need not be reached.
  * Refusals, in this order: 8, 1 (however large payload_len is); place 0.
  */
 uint64_t prushgoli_frame_bounds(uint32_t identifier, size_t payload_len);
@@ -98,7 +111,8 @@ uint64_t prushgoli_frame_bounds(uint32_t identifier, size_t payload_len);
  * Makes the line of a frame: one byte, 0 or 1, for each bit, in the order sent, stuffed to the last CRC bit as in
  * ISO 11898-1; the ACK slot is 1, as a sender leaves it: prushgoli_read_own_line reads it back. Length: its bits, as
  * prushgoli_frame_length tells.
- * Room: PRUSHGOLI_LINE_ROOM for every frame, short or long.
+ * Room: PRUSHGOLI_LINE_ROOM for every frame of the base form, PRUSHGOLI_LONG_LINE_ROOM for every one of the long form,
+ * however many bits it has.
  * Refusals, in this order: 8, 1, 2; place 0.
  */
 uint64_t prushgoli_make_frame(uint32_t identifier, const uint8_t *payload, size_t payload_len, uint8_t *line,
@@ -108,12 +122,16 @@ uint64_t prushgoli_make_frame(uint32_t identifier, const uint8_t *payload, size_
  * Reads the line of a frame from a live bus: its bits as prushgoli_make_frame writes them, but 0 in the ACK slot. A 1
  * there is refused, since it means that nobody heard the frame. A line of prushgoli_make_frame, unheard, is therefore
  * refused too, and is read with prushgoli_read_own_line. (Before change request #109 this call took 0 or 1.)
- * Length: the payload's bytes; prushgoli_identifier: the identifier.
+ * Length: the payload's bytes; prushgoli_identifier: the identifier, of the form that the bit IDE chooses. (Before
+ * change request #110 a line of the long form was refused, with 13: a caller that wants the base form alone now has to
+ * look for PRUSHGOLI_LONG.)
  * Room: the payload's bytes; PRUSHGOLI_PAYLOAD_MOST is enough for all.
  * Refusals: the first problem met from the left, and nothing to its right is looked at. At one bit the order is 11, 9,
  * 10, 13 or, in the ACK slot, 20; 3 comes with the fourth DLC bit and 12 with the last CRC bit, each after 11, 9 and 10
- * there and before a stuff bit behind it; bits too many, 11, come after the last end bit. Then 2, and 4 to 7 of the
- * data field, in the order and with the places that prushgoli_decode gives.
+ * there and before a stuff bit behind it; bits too many, 11, come after the last end bit. The bit before IDE, RTR (0)
+ * of the base form or SRR (1) of the long one, is judged only once IDE has been read without refusal; its 13 has its
+ * own place, one before IDE's, or two where a stuff bit stands between. Then 2, and 4 to 7 of the data field, in the
+ * order and with the places that prushgoli_decode gives.
  */
 uint64_t prushgoli_read_line(const uint8_t *line, size_t line_len, uint8_t *payload, size_t payload_room);
 
@@ -142,7 +160,7 @@ static inline unsigned prushgoli_length(uint64_t a)
     return prushgoli_refusal(a) == PRUSHGOLI_ACCEPTED ? (unsigned)(a & 0xFFFF) : 0;
 }
 
-/* Of prushgoli_read_line and prushgoli_read_own_line: the identifier; 0 when refused. */
+/* Of prushgoli_read_line and prushgoli_read_own_line: the identifier, with its form; 0 when refused. */
 static inline uint32_t prushgoli_identifier(uint64_t a)
 {
     return (uint32_t)(a >> 32);
@@ -172,7 +190,7 @@ static inline const char *prushgoli_reason(unsigned refusal)
     case PRUSHGOLI_ESCAPE: return "an escape where a byte must be";
     case PRUSHGOLI_NO_WORD: return "nine bits that are no word";
     case PRUSHGOLI_PADDING: return "padding other than 0, 1, 0, 1 and so on";
-    case PRUSHGOLI_IDENTIFIER: return "identifier above 2047";
+    case PRUSHGOLI_IDENTIFIER: return "identifier above 2047, or above 536,870,911 in the long form";
     case PRUSHGOLI_LINE_BYTE: return "a line byte above 1";
     case PRUSHGOLI_STUFF_BIT: return "sixth equal bit where a stuff bit is due";
     case PRUSHGOLI_LINE_LENGTH: return "line ends too early, or has bits after the last end bit";

@@ -10,7 +10,7 @@ enum { STACK = 8192, PAINT = 0xA5 };
 __attribute__((aligned(16))) uint8_t stack[STACK] = {[0 ... STACK - 1] = PAINT};
 __asm__(".globl _start\n_start: lea stack + 8192(%rip), %rsp\n call start\n");
 
-static uint8_t payload[PRUSHGOLI_PAYLOAD_MOST] = {0xF0}, field[PRUSHGOLI_FIELD_MOST], line[PRUSHGOLI_LINE_ROOM];
+static uint8_t payload[PRUSHGOLI_PAYLOAD_MOST] = {0xF0}, field[PRUSHGOLI_FIELD_MOST], line[PRUSHGOLI_LONG_LINE_ROOM];
 
 /* The documents' cases. */
 static int wrong_case(void)
@@ -28,15 +28,15 @@ static int wrong_case(void)
 }
 
 /* The longest inputs, there and back. */
-static int wrong_longest(void)
+static int wrong_longest(uint32_t identifier)
 {
     if (prushgoli_encode(payload, sizeof payload, field, sizeof field) != sizeof field) return 1;
     if (prushgoli_decode(field, sizeof field, payload, sizeof payload) != sizeof payload) return 2;
-    uint64_t bits = prushgoli_frame_length(2047, payload, sizeof payload);
-    uint64_t bounds = prushgoli_frame_bounds(2047, sizeof payload);
+    uint64_t bits = prushgoli_frame_length(identifier, payload, sizeof payload);
+    uint64_t bounds = prushgoli_frame_bounds(identifier, sizeof payload);
     if (bits < prushgoli_least(bounds) || bits > prushgoli_most(bounds)) return 4;
-    if (prushgoli_make_frame(2047, payload, sizeof payload, line, sizeof line) != bits) return 5;
-    uint64_t read = UINT64_C(2047) << 32 | sizeof payload;
+    if (prushgoli_make_frame(identifier, payload, sizeof payload, line, sizeof line) != bits) return 5;
+    uint64_t read = (uint64_t)identifier << 32 | sizeof payload;
     if (prushgoli_read_own_line(line, bits, payload, sizeof payload) != read) return 7;
     line[bits - 9] = 0; /* the ACK slot, as a receiver leaves it */
     if (prushgoli_read_line(line, bits, payload, sizeof payload) != read) return 6;
@@ -52,7 +52,8 @@ static long system_call(long number, long first, const void *second, long third)
 __attribute__((noreturn)) void start(void)
 {
     int wrong = wrong_case();
-    if (wrong == 0) wrong = wrong_longest();
+    if (wrong == 0) wrong = wrong_longest(2047);
+    if (wrong == 0) wrong = wrong_longest(PRUSHGOLI_LONG | 536870911);
     unsigned untouched = 0;
     while (untouched < STACK && ((volatile uint8_t *)stack)[untouched] == PAINT)
         untouched++;

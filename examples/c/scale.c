@@ -10,6 +10,9 @@
 
 enum { NET_WEIGHT = 0x155, WEIGHT_BYTES = 4 };
 
+/* An identifier of 29 bits, as forklifts have: bit 31 says so, in every call that takes or gives an identifier. */
+static const uint32_t forklift_weight = PRUSHGOLI_LONG | 0x18FF0155;
+
 /* The ACK slot, the ACK delimiter and seven end bits end a line. */
 enum { FROM_ACK_SLOT = 9 };
 
@@ -93,7 +96,11 @@ static bool print_read(const char *who, uint64_t answer, const uint8_t *payload)
 {
     if (!accepted(who, answer))
         return false;
-    printf("%s: identifier %03" PRIX32, who, prushgoli_identifier(answer));
+    uint32_t identifier = prushgoli_identifier(answer);
+    if (identifier & PRUSHGOLI_LONG)
+        printf("%s: long identifier %08" PRIX32, who, identifier & ~PRUSHGOLI_LONG);
+    else
+        printf("%s: identifier %03" PRIX32, who, identifier);
     print_bytes(", payload", payload, prushgoli_length(answer));
     return true;
 }
@@ -114,11 +121,22 @@ static bool record(const uint8_t *payload)
     return print_read("recorder, labeller on", prushgoli_read_line(line, bits, read, sizeof read), read);
 }
 
+/* The same weight for a forklift: a frame of the long form, which wants more room. */
+static bool tell_forklift(const uint8_t *payload)
+{
+    uint8_t line[PRUSHGOLI_LONG_LINE_ROOM] = {0}, read[PRUSHGOLI_PAYLOAD_MOST] = {0};
+    uint64_t made = prushgoli_make_frame(forklift_weight, payload, WEIGHT_BYTES, line, sizeof line);
+    if (!accepted("forklift", made))
+        return false;
+    printf("forklift: %u bits\n", prushgoli_length(made));
+    return print_read("forklift", prushgoli_read_own_line(line, prushgoli_length(made), read, sizeof read), read);
+}
+
 int main(void)
 {
     const uint8_t payload[WEIGHT_BYTES] = {0x00, 0x00, 0x04, 0xE2}; /* 1250 g, high byte first */
     struct mailbox box = {0};
-    if (!plan() || !send_weight(&box, payload) || !print_label(&box) || !record(payload))
+    if (!plan() || !send_weight(&box, payload) || !print_label(&box) || !record(payload) || !tell_forklift(payload))
         return 1;
     /* A bit that flips in memory. Some would make another word, and another weight: coding does not replace a CRC. */
     box.data[3] ^= 0x80;
