@@ -7,10 +7,17 @@
 
 #include "tables.h"
 
-enum { HEADER_BITS = 19, CRC_BITS = 15, TAIL_BITS = 10, MOST_EQUAL = 5, MOST_IDENTIFIER = 2047 };
+enum { CRC_BITS = 15, TAIL_BITS = 10, MOST_EQUAL = 5, MOST_IN_CRC = 4 };
 
-/* Start of frame; RTR, IDE and reserved bit. */
-enum { HEADER_ZEROS = 1 << 18 | 7 << 4 };
+/* Both headers begin with start of frame, 11 identifier bits, RTR or SRR, IDE. In the long one the other 18 identifier
+ * bits follow. Then come a reserved bit, in the long form RTR and two reserved bits, and the DLC. */
+enum { TO_IDE = 14, LOW_BITS = 18, BASE_REST = 5, LONG_REST = 7 };
+enum { BASE_HEADER = TO_IDE + BASE_REST, LONG_HEADER = TO_IDE + LOW_BITS + LONG_REST };
+enum { START_OF_FRAME = 1 << (TO_IDE - 1), REST_ZEROS = 7 << 4, SRR_AND_IDE = 3 << 25 };
+
+/* Where the lowest bit of an identifier stands in its header, and that of the 11 in a long one. */
+enum { IDENTIFIER = 7, HIGH_IDENTIFIER = 27 };
+enum { MOST_BASE = 2047, MOST_LONG = 0x1FFFFFFF, LOW_MASK = (1 << LOW_BITS) - 1 };
 
 static uint64_t refused(unsigned refusal, size_t place)
 {
@@ -90,34 +97,63 @@ uint64_t plain_decode(const uint8_t *field, size_t field_len, uint8_t *payload, 
 
 /* What is sent, before it is stuffed. */
 struct frame {
-    uint32_t header;
+    uint64_t header;
+    unsigned header_bits;
     size_t n;
     uint8_t field[PRUSHGOLI_FIELD_MOST];
     unsigned crc;
 };
+
+static bool is_long(const struct frame *frame)
+{
+    return frame->header_bits > BASE_HEADER;
+}
 
 static unsigned crc_step(unsigned crc, unsigned byte)
 {
     return (crc << 8 ^ crc_of[(crc >> 7 ^ byte) & 0xFF]) & 0x7FFF;
 }
 
-/* Zeros in front leave a CRC of 0 as it is, so that the header can be three bytes. */
+/* Zeros in front leave a CRC of 0 as it is, so that the header can be three bytes, or five. */
 static unsigned crc_of_frame(const struct frame *frame)
 {
-    unsigned crc = crc_step(crc_step(crc_step(0, frame->header >> 16), frame->header >> 8), frame->header);
+    unsigned high = (unsigned)(frame->header >> 24), low = (unsigned)frame->header, crc = 0;
+    if (is_long(frame))
+        crc = crc_step(crc_step(0, high >> 8), high);
+    crc = crc_step(crc_step(crc_step(crc, low >> 16), low >> 8), low);
     for (size_t i = 0; i < frame->n; i++)
         crc = crc_step(crc, frame->field[i]);
     return crc;
 }
 
-static uint64_t fill_frame(struct frame *frame, uint32_t identifier, const uint8_t *payload, size_t size)
+/* The header of an identifier and a size, or a refusal. */
+static inline uint64_t fill_header(struct frame *frame, uint32_t identifier, size_t size)
 {
-    if (identifier > MOST_IDENTIFIER)
-        return refused(PRUSHGOLI_IDENTIFIER, 0);
+    uint32_t number = identifier & ~PRUSHGOLI_LONG;
+    if (number == identifier) {
+        if (number > MOST_BASE)
+            return refused(PRUSHGOLI_IDENTIFIER, 0);
+        frame->header_bits = BASE_HEADER;
+        frame->header = number << IDENTIFIER;
+    } else {
+        if (number > MOST_LONG)
+            return refused(PRUSHGOLI_IDENTIFIER, 0);
+        frame->header_bits = LONG_HEADER;
+        uint64_t high = number >> LOW_BITS, low = number & LOW_MASK;
+        frame->header = high << HIGH_IDENTIFIER | SRR_AND_IDE | low << IDENTIFIER;
+    }
     if (size > PRUSHGOLI_PAYLOAD_MOST)
         return refused(PRUSHGOLI_PAYLOAD_TOO_LONG, 0);
     frame->n = field_bytes(size);
-    frame->header = identifier << 7 | (uint32_t)frame->n;
+    frame->header |= frame->n;
+    return 0;
+}
+
+static uint64_t fill_frame(struct frame *frame, uint32_t identifier, const uint8_t *payload, size_t size)
+{
+    uint64_t refusal = fill_header(frame, identifier, size);
+    if (refusal != 0)
+        return refusal;
     code_field(payload, size, frame->field);
     frame->crc = crc_of_frame(frame);
     return 0;
@@ -142,7 +178,7 @@ static bool stuffs(struct run *run, unsigned bit)
     return true;
 }
 
-static size_t count_stuffed(struct run *run, uint32_t value, unsigned width)
+static size_t count_stuffed(struct run *run, uint64_t value, unsigned width)
 {
     size_t stuffed = 0;
     while (width-- > 0)
@@ -157,15 +193,27 @@ uint64_t plain_frame_length(uint32_t identifier, const uint8_t *payload, size_t 
     uint64_t refusal = fill_frame(&frame, identifier, payload, payload_len);
     if (refusal != 0)
         return refusal;
-    size_t stuffed = count_stuffed(&run, frame.header, HEADER_BITS);
+    size_t stuffed = count_stuffed(&run, frame.header, frame.header_bits);
     for (size_t i = 0; i < frame.n; i++)
         stuffed += count_stuffed(&run, frame.field[i], 8);
     stuffed += count_stuffed(&run, frame.crc, CRC_BITS);
-    return HEADER_BITS + 8 * frame.n + CRC_BITS + TAIL_BITS + stuffed;
+    return frame.header_bits + 8 * frame.n + CRC_BITS + TAIL_BITS + stuffed;
+}
+
+uint64_t plain_frame_bounds(uint32_t identifier, size_t payload_len)
+{
+    struct frame frame;
+    struct run run = idle;
+    uint64_t refusal = fill_header(&frame, identifier, payload_len);
+    if (refusal != 0)
+        return refusal;
+    size_t stuffed = count_stuffed(&run, frame.header, frame.header_bits);
+    uint64_t least = frame.header_bits + 8 * frame.n + CRC_BITS + TAIL_BITS + stuffed;
+    return (least + MOST_IN_CRC) << 32 | least;
 }
 
 /* Writes the bits of a value, highest first, and their stuff bits; gives where the next bit goes. */
-static uint8_t *send(uint8_t *line, struct run *run, uint32_t value, unsigned width)
+static uint8_t *send(uint8_t *line, struct run *run, uint64_t value, unsigned width)
 {
     while (width-- > 0) {
         unsigned bit = value >> width & 1;
@@ -184,9 +232,9 @@ uint64_t plain_make_frame(uint32_t identifier, const uint8_t *payload, size_t pa
     uint64_t refusal = fill_frame(&frame, identifier, payload, payload_len);
     if (refusal != 0)
         return refusal;
-    if (line_room < PRUSHGOLI_LINE_ROOM)
+    if (line_room < (is_long(&frame) ? PRUSHGOLI_LONG_LINE_ROOM : PRUSHGOLI_LINE_ROOM))
         return refused(PRUSHGOLI_ROOM_SHORT, 0);
-    uint8_t *end = send(line, &run, frame.header, HEADER_BITS);
+    uint8_t *end = send(line, &run, frame.header, frame.header_bits);
     for (size_t i = 0; i < frame.n; i++)
         end = send(end, &run, frame.field[i], 8);
     end = send(end, &run, frame.crc, CRC_BITS);
@@ -253,19 +301,57 @@ static bool receive(struct reader *from, unsigned width)
     return width == 0;
 }
 
-static bool receive_header(struct reader *reader, struct frame *frame)
+/* The next bits of a header, of which those in `zeros` must be 0. */
+static inline bool receive_checked(struct reader *reader, uint64_t *to, unsigned width, unsigned zeros)
 {
+    uint64_t header = *to;
     unsigned bit;
-    frame->header = 0;
-    for (unsigned left = HEADER_BITS; left-- > 0;) {
+    while (width-- > 0) {
         if (!next_unstuffed(reader, &bit))
             return false;
-        if (bit & HEADER_ZEROS >> left)
+        if (bit & zeros >> width)
             return refuse(reader, PRUSHGOLI_FIXED_BIT);
-        frame->header = frame->header << 1 | bit;
+        header = header << 1 | bit;
     }
-    frame->n = frame->header & 0xF;
+    *to = header;
+    return true;
+}
+
+/* IDE was read last. Where five equal bits end two places before it, the place between has a stuff bit. */
+static bool refuse_before_ide(struct reader *reader)
+{
+    const uint8_t *five = reader->line + reader->place - 7;
+    reader->place -= memcmp(five, five + 1, 4) == 0 ? 2 : 1;
+    return refuse(reader, PRUSHGOLI_FIXED_BIT);
+}
+
+/* RTR is 0 where IDE is 0, SRR is 1 where IDE is 1. */
+static bool receive_header(struct reader *reader, struct frame *frame)
+{
+    uint64_t header = 0;
+    if (!receive_checked(reader, &header, TO_IDE, START_OF_FRAME))
+        return false;
+    unsigned ide = header & 1, before_ide = header >> 1 & 1, rest = BASE_REST;
+    if (before_ide != ide)
+        return refuse_before_ide(reader);
+    if (ide) {
+        if (!receive(reader, LOW_BITS))
+            return false;
+        header = header << LOW_BITS | reader->value;
+        rest = LONG_REST;
+    }
+    if (!receive_checked(reader, &header, rest, REST_ZEROS))
+        return false;
+    frame->header_bits = ide ? LONG_HEADER : BASE_HEADER;
+    frame->header = header;
+    frame->n = header & 0xF;
     return (frame->n != 1 && frame->n <= PRUSHGOLI_FIELD_MOST) || refuse(reader, PRUSHGOLI_FIELD_LENGTH);
+}
+
+static uint32_t identifier_of(const struct frame *frame)
+{
+    uint32_t low = (uint32_t)(frame->header >> IDENTIFIER), high = (uint32_t)(frame->header >> HIGH_IDENTIFIER);
+    return is_long(frame) ? PRUSHGOLI_LONG | high << LOW_BITS | (low & LOW_MASK) : low;
 }
 
 static bool receive_field_and_crc(struct reader *reader, struct frame *frame)
@@ -315,7 +401,7 @@ static uint64_t read_line(const uint8_t *line, size_t line_len, uint8_t *payload
         !receive_tail(&reader, most_ack))
         return reader.refusal;
     uint64_t answer = plain_decode(frame.field, frame.n, payload, payload_room);
-    return answer >> 16 == 0 ? (uint64_t)(frame.header >> 7) << 32 | answer : answer;
+    return answer >> 16 == 0 ? (uint64_t)identifier_of(&frame) << 32 | answer : answer;
 }
 
 uint64_t plain_read_line(const uint8_t *line, size_t line_len, uint8_t *payload, size_t payload_room)
