@@ -1,5 +1,6 @@
 /* Sends frames, with the payload as it is (plain) and coded in 8B9B, and counts the lengths met. The 8B9B frame is the
- * archive's. The plain one has the payload's bytes as its data field, and is built by the second program. */
+ * archive's. The plain one has the payload's bytes as its data field, and is built by the second program; frames of the
+ * long form are sent in 8B9B alone. */
 #include "frames.h"
 
 #include <prushgoli.h>
@@ -9,6 +10,9 @@
 #include "frame.h"
 
 enum { IDENTIFIERS = 2048, LENGTHS = 160, NO_BIT = 2, FROM_ACK_SLOT = 9 /* bits to the end of a line */ };
+
+/* Of a long identifier; and the frames in runs that are sent, at most, of those with the same bounds. */
+enum { LONG_BITS = 29, MOST_IN_RUNS = 2000 };
 
 struct range {
     unsigned shortest, longest;
@@ -80,7 +84,7 @@ static void read_back(uint8_t *line, unsigned bits, uint32_t identifier, const u
     met.heard += comes_back(prushgoli_read_line, line, bits, identifier, payload, size);
 }
 
-static void send_coded(uint32_t identifier, const uint8_t *payload, size_t size)
+static unsigned send_coded(uint32_t identifier, const uint8_t *payload, size_t size)
 {
     uint8_t line[LENGTHS];
     memset(line, NO_BIT, sizeof line);
@@ -88,32 +92,32 @@ static void send_coded(uint32_t identifier, const uint8_t *payload, size_t size)
     uint64_t length = prushgoli_frame_length(identifier, payload, size);
     uint64_t made = prushgoli_make_frame(identifier, payload, size, line, sizeof line);
     unsigned bits = bits_of(line, sizeof line), least = prushgoli_least(bounds);
+    met.frames++;
     met.reported += prushgoli_length(length) == bits && prushgoli_length(made) == bits;
     met.within += least <= bits && bits <= prushgoli_most(bounds);
     met.coded[least][bits]++;
-    widen(&coded_of[identifier], bits);
     if (bits > FROM_ACK_SLOT)
         read_back(line, bits, identifier, payload, size);
+    return bits;
 }
 
 static void send(uint32_t identifier, const uint8_t *payload, size_t size)
 {
-    met.frames++;
     send_plain(identifier, payload, size);
-    send_coded(identifier, payload, size);
+    widen(&coded_of[identifier], send_coded(identifier, payload, size));
 }
 
-static void print_met(const char *payloads, size_t size)
+static void print_met(const char *form, const char *kind, size_t size)
 {
-    printf("frames %s %zu %lu %lu %lu %lu %lu %lu\n", payloads, size, met.frames, met.reported, met.within, met.back,
-           met.unheard, met.heard);
+    printf("frames %s %s %zu %lu %lu %lu %lu %lu %lu\n", form, kind, size, met.frames, met.reported, met.within,
+           met.back, met.unheard, met.heard);
     for (unsigned length = 0; length <= LENGTHS; length++)
         if (met.plain[length] > 0)
-            printf("plain %s %zu %u %lu\n", payloads, size, length, met.plain[length]);
+            printf("plain %s %s %zu %u %lu\n", form, kind, size, length, met.plain[length]);
     for (unsigned least = 0; least < LENGTHS; least++)
         for (unsigned length = 0; length <= LENGTHS; length++)
             if (met.coded[least][length] > 0)
-                printf("coded %s %zu %u %u %lu\n", payloads, size, least, length, met.coded[least][length]);
+                printf("coded %s %s %zu %u %u %lu\n", form, kind, size, least, length, met.coded[least][length]);
 }
 
 static uint64_t random_number(void)
@@ -125,18 +129,24 @@ static uint64_t random_number(void)
     return number ^ number >> 31;
 }
 
-/* Random identifiers with random payloads, of which each byte is as likely as any other. */
+/* Each byte is as likely as any other. */
+static void random_payload(uint8_t *payload, size_t size)
+{
+    uint64_t bytes = random_number();
+    for (size_t i = 0; i < size; i++)
+        payload[i] = (uint8_t)(bytes >> 8 * i);
+}
+
+/* Random identifiers with random payloads. */
 static void send_random(size_t size)
 {
     uint8_t payload[PRUSHGOLI_PAYLOAD_MOST];
     memset(&met, 0, sizeof met);
     for (unsigned long frame = 0; frame < RANDOM_FRAMES; frame++) {
-        uint64_t bytes = random_number();
-        for (size_t i = 0; i < size; i++)
-            payload[i] = (uint8_t)(bytes >> 8 * i);
+        random_payload(payload, size);
         send((uint32_t)(random_number() % IDENTIFIERS), payload, size);
     }
-    print_met("random", size);
+    print_met("base", "random", size);
 }
 
 /* Every identifier with every payload that has no bytes but 00 and FF. */
@@ -150,7 +160,7 @@ static void send_equal_bits(size_t size)
         for (uint32_t identifier = 0; identifier < IDENTIFIERS; identifier++)
             send(identifier, payload, size);
     }
-    print_met("equal-bits", size);
+    print_met("base", "equal-bits", size);
 }
 
 void send_frames(size_t size)
@@ -160,4 +170,60 @@ void send_frames(size_t size)
     send_random(size);
     send_equal_bits(size);
     printf("spread %zu %u %u\n", size, widest(plain_of), widest(coded_of));
+}
+
+static uint32_t in_runs[IN_RUNS];
+
+/* Lists all that begin with these bits and go on with a run of this bit, so many bits being left; gives where the list
+ * ends. */
+static uint32_t *list_runs(uint32_t *next, uint32_t begun, int left, uint32_t bit)
+{
+    for (int run = 2; run <= left; run++) {
+        uint32_t number = ((begun + bit) << run) - bit;
+        if (run == left)
+            *next++ = number;
+        else
+            next = list_runs(next, number, left - run, !bit);
+    }
+    return next;
+}
+
+const uint32_t *identifiers_in_runs(void)
+{
+    if (in_runs[IN_RUNS - 1] == 0)
+        list_runs(list_runs(in_runs, 0, LONG_BITS, 0), 0, LONG_BITS, 1);
+    return in_runs;
+}
+
+static void send_long_random(size_t size)
+{
+    uint8_t payload[PRUSHGOLI_PAYLOAD_MOST];
+    memset(&met, 0, sizeof met);
+    for (unsigned long frame = 0; frame < LONG_RANDOM_FRAMES; frame++) {
+        random_payload(payload, size);
+        send_coded(PRUSHGOLI_LONG | (uint32_t)(random_number() >> (64 - LONG_BITS)), payload, size);
+    }
+    print_met("long", "random", size);
+}
+
+static void send_in_runs(size_t size)
+{
+    const uint32_t *identifiers = identifiers_in_runs();
+    unsigned sent[LENGTHS] = {0};
+    uint8_t payload[PRUSHGOLI_PAYLOAD_MOST];
+    memset(&met, 0, sizeof met);
+    for (size_t i = 0; i < IN_RUNS; i++) {
+        uint32_t identifier = PRUSHGOLI_LONG | identifiers[i];
+        if (sent[prushgoli_least(prushgoli_frame_bounds(identifier, size))]++ >= MOST_IN_RUNS)
+            continue;
+        random_payload(payload, size);
+        send_coded(identifier, payload, size);
+    }
+    print_met("long", "in-runs", size);
+}
+
+void send_long_frames(size_t size)
+{
+    send_long_random(size);
+    send_in_runs(size);
 }

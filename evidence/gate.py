@@ -13,7 +13,7 @@ LOGIC = re.compile(r"logic=proved functions=(\d+)(?: axioms=(\d+))?(?: target=\S
 AXIOMS = re.compile(r"axioms \w+: (.*) \(\d+ of the \d+ declared\)")
 PROVED = re.compile(r"rt: (\w+) proved \((\d+) s\)")
 REFUSED = re.compile(r"rt: must-fail (\w+)/\w+: refused, as it must be \(.*\)")
-ASKED = re.compile(r"(\w+) +accepted (\d+), refused((?:  \d+: \d+)+)")
+ASKED = re.compile(r"(\w+(?:, long)?) +accepted (\d+), refused((?:  \d+: \d+)+)")
 # The steps that tell what they found in one line, their last.
 TOLD = ("total", "documents", "header", "archive", "example", "first")
 
@@ -75,7 +75,7 @@ class Gate:
         asked = [match for match in map(ASKED.fullmatch, lines) if match]
         self.calls = [Call(match[1], int(match[2]), sum(int(part.split()[1]) for part in match[3].split("  ")[1:]))
                       for match in asked]
-        require(len(self.calls) == 7, f"{path}: {len(self.calls)} lines, not seven, on a call: NAME accepted N, refused ...")
+        require(len(self.calls) == 12, f"{path}: {len(self.calls)} lines, not 12, on a call: NAME accepted N, refused ...")
         compared = only(r"compare: (\d+) comparisons, (\d+) differences", lines, path)
         self.comparisons, self.differences = map(int, compared)
         lines, path = self.step("trace")

@@ -65,26 +65,28 @@ def window(scale, least, most, base):
 
 
 def panel(runs, scale, payloads, size, base):
-    plain, coded = runs.plain[payloads, size], runs.lengths(payloads, size)
-    yield text(LEFT, base - PANEL - 20, f"{TITLES[payloads]}, {runs.frames[payloads, size].sent:,} frames", "start", "title")
+    plain, coded = runs.plain["base", payloads, size], runs.lengths("base", payloads, size)
+    yield text(LEFT, base - PANEL - 20, f"{TITLES[payloads]}, {runs.frames['base', payloads, size].sent:,} frames", "start", "title")
     yield from grid(scale, base)
     yield from bars(scale, plain, base, "plain", -1)
     yield from bars(scale, coded, base, "coded", 1)
     side = 1 if mean(plain) > mean(coded) else -1
     yield from label(scale, plain, base, f"plain CAN, {size} data bytes", side)
-    yield from label(scale, coded, base, f"8B9B, {runs.bounds[size][0].field_bytes} field bytes", -side)
-    yield from window(scale, min(b.least for b in runs.bounds[size]), max(b.most for b in runs.bounds[size]), base)
+    bounds = runs.bounds["base", size]
+    yield from label(scale, coded, base, f"8B9B, {bounds[0].field_bytes} field bytes", -side)
+    yield from window(scale, min(b.least for b in bounds), max(b.most for b in bounds), base)
 
 
 def describe(runs, size):
     for payloads in PAYLOADS:
-        for name, counted in (("plain CAN", runs.plain[payloads, size]), ("8B9B", runs.lengths(payloads, size))):
+        for name, counted in (("plain CAN", runs.plain["base", payloads, size]), ("8B9B", runs.lengths("base", payloads, size))):
             yield (f"{TITLES[payloads]}, {name}: {min(counted)} to {max(counted)} bits, "
                    f"mean {mean(counted):.1f}, most often {max(counted, key=counted.get)}.")
 
 
 def plot(runs, size):
-    series = [counted for payloads in PAYLOADS for counted in (runs.plain[payloads, size], runs.lengths(payloads, size))]
+    series = [counted for payloads in PAYLOADS
+              for counted in (runs.plain["base", payloads, size], runs.lengths("base", payloads, size))]
     scale = Scale(series)
     height = TOP + 2 * PANEL + GAP + BOTTOM
     parts = [f'<svg viewBox="0 0 {WIDTH} {height}" role="img" aria-labelledby="plot-title plot-description">',

@@ -1,10 +1,14 @@
 """The tables of the page that show runs: the bytes, the timetable, the lengths met."""
 from reading import require
-from runs import PAYLOADS, SIZES, mean
+from runs import KINDS, PAYLOADS, SIZES, mean
 
 # Document 01, "Words": what 002 misprints, and the word that the ordering rule gives.
 MISPRINTS = {0x10: ("001010101", "001011001"), 0x74: ("011100101", "011101001")}
 NONE = '<td class="none">–</td>'
+
+# The timetable of a form: the bits of a frame without data and without stuff bits, and the most stuff bits in a header.
+WITHOUT = {"base": 44, "long": 64}
+MOST_STUFFED = {"base": 4, "long": 9}
 
 
 def bits(row):
@@ -41,30 +45,33 @@ def span(least, most):
     return f"{least}–{most}" if least < most else f"{least}"
 
 
-def timetable_cell(runs, size, bounds):
+def timetable_cell(runs, form, size, bounds):
     if bounds is None:
         return NONE
-    met = [length for payloads in PAYLOADS for length in runs.coded[payloads, size][bounds.least]]
+    met = [length for kind in KINDS[form] for length in runs.coded[form, kind, size].get(bounds.least, ())]
     seen = f"met {span(min(met), max(met))}" if met else "none met"
     many = "identifiers" if bounds.identifiers > 1 else "identifier"
-    return (f'<td><b>{span(bounds.least, bounds.most)}</b><span class="identifiers">{bounds.identifiers:,} {many}</span>'
+    named = f"{bounds.identifiers:,}" if form == "long" else f"{bounds.identifiers:,} {many}"
+    return (f'<td><b>{span(bounds.least, bounds.most)}</b><span class="identifiers">{named}</span>'
             f'<span class="met">{seen}</span></td>')
 
 
-def timetable_row(runs, size):
-    rows = runs.bounds[size]
+def timetable_row(runs, form, size):
+    rows = runs.bounds[form, size]
     field_bytes = rows[0].field_bytes
-    by_stuff_bits = {bounds.least - 44 - 8 * field_bytes: bounds for bounds in rows}
-    cells = "".join(timetable_cell(runs, size, by_stuff_bits.get(h)) for h in range(5))
+    by_stuff_bits = {bounds.least - WITHOUT[form] - 8 * field_bytes: bounds for bounds in rows}
+    columns = range(MOST_STUFFED[form] + 1)
+    require(set(by_stuff_bits) <= set(columns), f"{form} form, size {size}: stuff bits in a header: {sorted(by_stuff_bits)}")
+    cells = "".join(timetable_cell(runs, form, size, by_stuff_bits.get(h)) for h in columns)
     total = sum(bounds.identifiers for bounds in rows)
     return (f'<tr><th scope="row">{size}</th><td>{field_bytes}</td>{cells}'
             f'<td class="total">{total:,}</td></tr>')
 
 
-def timetable(runs):
-    heads = "".join(f'<th scope="col"><i>h</i> = {h}</th>' for h in range(5))
-    rows = "\n".join(timetable_row(runs, size) for size in SIZES)
-    return ('<table class="timetable"><thead><tr><th scope="col">payload<br/>size</th>'
+def timetable(runs, form):
+    heads = "".join(f'<th scope="col"><i>h</i> = {h}</th>' for h in range(MOST_STUFFED[form] + 1))
+    rows = "\n".join(timetable_row(runs, form, size) for size in SIZES)
+    return (f'<table class="timetable {form}" id="timetable-{form}"><thead><tr><th scope="col">payload<br/>size</th>'
             f'<th scope="col">field bytes<br/><i>n</i></th>{heads}<th scope="col">identifiers<br/>in all</th>'
             f"</tr></thead><tbody>\n{rows}\n</tbody></table>")
 
@@ -74,7 +81,7 @@ def three(counted):
 
 
 def lengths_row(runs, size):
-    cells = "".join(three(counted(payloads, size)) for payloads in PAYLOADS
+    cells = "".join(three(counted("base", payloads, size)) for payloads in PAYLOADS
                     for counted in (lambda *key: runs.plain[key], runs.lengths))
     plain, coded = runs.spread[size]
     return (f'<tr><th scope="row">{size}</th>{cells}<td class="first spread">{plain}</td>'

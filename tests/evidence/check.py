@@ -60,22 +60,33 @@ def check_bytes(page):
     check(shown(page, "bytes-distinct") == "256", "the words are said not to differ")
 
 
-def check_timetable(page):
-    rows = page.findall(".//table[@class='timetable']/tbody/tr")
-    check(len(rows) == 8, f"{len(rows)} sizes in the timetable")
+def in_runs(bits):
+    """How many rows of so many bits have runs of two or more equal bits alone: the last bit is in a run of two, or of more."""
+    return 2 if bits in (2, 3) else in_runs(bits - 2) + in_runs(bits - 1)
+
+
+# Of each form: the bits of a frame without data and stuff bits, the columns, and how many identifiers are asked for.
+FORMS = {"base": (44, 5, 2048), "long": (64, 10, in_runs(29))}
+
+
+def check_timetable(page, form):
+    without, columns, asked = FORMS[form]
+    rows = page.findall(f".//table[@id='timetable-{form}']/tbody/tr")
+    check(len(rows) == 8, f"{len(rows)} sizes in the timetable of the {form} form")
     for size, row in enumerate(rows):
-        field_bytes = size + 1 if size else 0
-        check([numbers(row[0]), numbers(row[1])] == [[size], [field_bytes]], f"size {size}: the row's head")
+        field_bytes, where = size + 1 if size else 0, f"{form} form, size {size}"
+        check([numbers(row[0]), numbers(row[1])] == [[size], [field_bytes]], f"{where}: the row's head")
+        check(len(row) == 2 + columns + 1, f"{where}: {len(row)} cells")
         identifiers = 0
-        for h, cell in enumerate(row[2:7]):
+        for h, cell in enumerate(row[2:-1]):
             if cell.get("class") == "none":
                 continue
-            least = 44 + 8 * field_bytes + h
-            check(numbers(cell[0]) == [least, least + 4], f"size {size}, h {h}: the bounds are {text(cell[0])}")
+            least = without + 8 * field_bytes + h
+            check(numbers(cell[0]) == [least, least + 4], f"{where}, h {h}: the bounds are {text(cell[0])}")
             met = numbers(cell[2])
-            check(met and least <= met[0] and met[-1] <= least + 4, f"size {size}, h {h}: {text(cell[2])}")
+            check(met and least <= met[0] and met[-1] <= least + 4, f"{where}, h {h}: {text(cell[2])}")
             identifiers += numbers(cell[1])[0]
-        check([identifiers] == numbers(row[7]) == [2048], f"size {size}: {identifiers} identifiers, said: {text(row[7])}")
+        check([identifiers] == numbers(row[-1]) == [asked], f"{where}: {identifiers} identifiers, said: {text(row[-1])}")
 
 
 def check_lengths(page):
@@ -94,8 +105,10 @@ def check_lengths(page):
 
 def check_acknowledged(page):
     """Each identifier at least with every payload of bytes 00 and FF: refused while nobody heard the frame, else read."""
-    sent, unheard, heard = (int(shown(page, f"frames-{name}").replace(",", "")) for name in ("sent", "unheard", "heard"))
-    check(sent >= 2048 * (2 ** 8 - 1), f"only {sent} frames were sent")
+    sent, long_sent, unheard, heard = (int(shown(page, f"frames-{name}").replace(",", ""))
+                                       for name in ("sent", "long", "unheard", "heard"))
+    check(sent - long_sent >= 2048 * (2 ** 8 - 1), f"only {sent - long_sent} frames of the base form were sent")
+    check(long_sent >= 8 * 50000, f"only {long_sent} frames of the long form were sent")
     check(unheard == sent, f"of {sent} frames that nobody heard, {unheard} are said to be refused")
     check(heard == sent, f"of {sent} acknowledged frames, {heard} are said to be read")
 
@@ -142,12 +155,13 @@ def main(path, folder):
     except tree.ParseError as error:
         check(False, f"the page is not well formed: {error}")
     check_bytes(page)
-    check_timetable(page)
+    for form in FORMS:
+        check_timetable(page, form)
     check_lengths(page)
     check_acknowledged(page)
     check_gate(page, Path(folder))
     check_commit(page)
-    print("tests/evidence: 256 bytes, 8 sizes, the frames read, the gate's numbers and the commit are as they must be; "
+    print("tests/evidence: 256 bytes, 8 sizes in both forms, the frames read, the gate's numbers and the commit are as they must be; "
           "nothing from outside")
 
 

@@ -1,6 +1,6 @@
-/* Writes lines that the archive makes, and what we say of each: a row of text with identifier, DLC, data bytes, CRC,
- * places of the stuff bits, the five bits before a stuff bit behind the last CRC bit, length, the line itself, and the bit
- * in its ACK slot. What there is none of is a -. */
+/* Writes lines that the archive makes, and what we say of each: a row of text with identifier (of the long form, with
+ * bit 31), DLC, data bytes, CRC, places of the stuff bits, the five bits before a stuff bit behind the last CRC bit,
+ * length, the line itself, and the bit in its ACK slot. What there is none of is a -. */
 #include "random.h"
 #include <prushgoli.h>
 #include <stdio.h>
@@ -8,8 +8,10 @@
 #include <string.h>
 
 enum {
-    IDENTIFIERS = 0x7F0, /* from here on CAN 2.0 forbids them, and sigrok's decoder warns */
-    HEADER = 19,
+    IDENTIFIERS = 0x7F0, /* from here on CAN 2.0 forbids the first eleven bits, and sigrok's decoder warns */
+    LOW_BITS = 18,       /* of a long identifier, behind the first eleven */
+    BASE_HEADER = 19,
+    LONG_HEADER = 39,
     CRC = 15,
     FROM_ACK_SLOT = 9 /* bits to the end of the line */
 };
@@ -22,13 +24,13 @@ struct frame {
 };
 
 struct line {
-    uint8_t field[PRUSHGOLI_FIELD_MOST], bit[PRUSHGOLI_LINE_ROOM];
-    unsigned dlc, length;
+    uint8_t field[PRUSHGOLI_FIELD_MOST], bit[PRUSHGOLI_LONG_LINE_ROOM];
+    unsigned header, dlc, length;
 };
 
 /* Of a line, what no call tells. */
 struct reading {
-    unsigned crc, stuff_bits, stuff_place[PRUSHGOLI_LINE_ROOM];
+    unsigned crc, stuff_bits, stuff_place[PRUSHGOLI_LONG_LINE_ROOM];
     const char *five_before;
 };
 
@@ -56,6 +58,7 @@ static struct line line_of(const struct frame *frame)
     must(prushgoli_identifier(read) == frame->identifier && prushgoli_length(read) == frame->size &&
              memcmp(payload, frame->payload, frame->size) == 0,
          frame, "something else read from the line");
+    line.header = frame->identifier & PRUSHGOLI_LONG ? LONG_HEADER : BASE_HEADER;
     line.dlc = prushgoli_length(encoded);
     line.length = prushgoli_length(made);
     line.bit[line.length - FROM_ACK_SLOT] = frame->ack;
@@ -70,7 +73,7 @@ static struct line line_of(const struct frame *frame)
 static struct reading reading_of(const struct line *line)
 {
     struct reading reading = {.five_before = "-"};
-    unsigned bits = 0, bits_with_crc = HEADER + 8 * line->dlc + CRC, run = 0;
+    unsigned bits = 0, bits_with_crc = line->header + 8 * line->dlc + CRC, run = 0;
     for (unsigned place = 0; place < line->length && (bits < bits_with_crc || run == 5); place++) {
         if (run == 5) {
             reading.stuff_place[reading.stuff_bits++] = place;
@@ -102,18 +105,39 @@ static void write_row(const struct frame *frame)
     printf(" %u\n", frame->ack);
 }
 
-/* Two whose CRC ends in five 1s and in five 0s; then each identifier with each size: hundreds draw that stuff bit too. */
+static void write_random(uint32_t identifier, size_t size, uint8_t ack)
+{
+    struct frame frame = {.identifier = identifier, .size = size, .ack = ack};
+    random_bytes(frame.payload, size);
+    write_row(&frame);
+}
+
+/* Any bits, or bits that are mostly like the one before: these draw many stuff bits. */
+static uint32_t random_low_bits(void)
+{
+    uint32_t low = 0, bit = 1;
+    if (random_below(2) == 0)
+        return (uint32_t)random_below(1 << LOW_BITS);
+    for (int i = 0; i < LOW_BITS; i++) {
+        bit ^= random_below(4) == 0;
+        low = low << 1 | bit;
+    }
+    return low;
+}
+
+/* Two whose CRC ends in five 1s and in five 0s; then each identifier with each size: hundreds draw that stuff bit too;
+ * then each eleven bits with any others behind them, in the long form. */
 int main(void)
 {
     for (uint8_t ack = 0; ack < 2; ack++) {
         write_row(&(struct frame){.payload = {0x77}, .size = 1, .ack = ack});
         write_row(&(struct frame){.payload = {0x5F}, .size = 1, .ack = ack});
     }
-    for (uint32_t identifier = 0; identifier < IDENTIFIERS; identifier++)
-        for (size_t size = 0; size <= PRUSHGOLI_PAYLOAD_MOST; size++) {
-            struct frame frame = {.identifier = identifier, .size = size, .ack = (identifier + size) % 2};
-            random_bytes(frame.payload, size);
-            write_row(&frame);
-        }
+    for (uint32_t first = 0; first < IDENTIFIERS; first++)
+        for (size_t size = 0; size <= PRUSHGOLI_PAYLOAD_MOST; size++)
+            write_random(first, size, (first + size) % 2);
+    for (uint32_t first = 0; first < IDENTIFIERS; first++)
+        for (size_t size = 0; size <= PRUSHGOLI_PAYLOAD_MOST; size++)
+            write_random(PRUSHGOLI_LONG | first << LOW_BITS | random_low_bits(), size, (first + size) % 2);
     return fflush(stdout) != 0 || ferror(stdout);
 }
