@@ -37,7 +37,8 @@ use Rattle.scanning.specs.declared.Reading.{Reading}
 use Rattle.line.specs.Ack.{withAck}
 use Rattle.line.specs.Read.{acknowledged, own, withIdentifier, readAnswer}
 use Rattle.line.specs.declared.Line.the-variants.{Frame, Refused}
-use Rattle.line.proofs.BeforeIde.{before-ide, fixed-elsewhere}
+use Rattle.line.proofs.BeforeIde.{before-ide}
+use Rattle.line.proofs.FixedBits.{fixed-elsewhere}
 use Rattle.line.proofs.FirstProblem.{bitNumbers, stopped-at, stopped-stays, cut-before}
 use Rattle.line.proofs.ProblemMet.{problem-met, right-before, problem-stops}
 use Rattle.line.proofs.ReadAnswers.{read-stopped}

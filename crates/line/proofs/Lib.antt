@@ -2,6 +2,7 @@ pub mod ReadAnswers
 pub mod FirstProblem
 pub mod ProblemMet
 pub mod BeforeIde
+pub mod FixedBits
 pub mod Sound
 pub mod OnLine
 pub mod AckSlot

@@ -1,155 +1,36 @@
--- From row to row. Assumes nothing.
---     line-begins     before the first row
---     begun, field-begins    into a row
+-- Behind a row. Assumes nothing.
 --     Ends, field-ends    where reading stops in it: to the next one, or the line is refused as the definition says; IDE tells the form
---     line-longer     behind the last row: the line goes on,
---     line-read       or it is read
 use mathlib.Core.Path.{_≡_, refl, sym, ap, ap₂, _∙_, subst}
 use mathlib.Core.Bool.{Bool, true, false, cond, not, _||_, true≢false}
-use mathlib.Core.List.{List, [], _++_}
-use Prim.Native.Nat.{ℕ, zero, suc, _+_, _-_, _*_, _/_, _%_, _≤_, _<_}
+use mathlib.Core.List.{List, _++_}
+use Prim.Native.Nat.{ℕ, _+_, _-_, _*_, _/_, _%_, _≤_, _<_}
 use native.Mathlib.Omega.{arith}
-use lib.Dec.{eqb, ltb, lit<}
-use lib.ListN.{length, getD, drop-of-length-le}
-use lib.Seq.{drop-cons}
+use lib.Dec.{eqb, ltb}
+use lib.ListN.{length, getD}
 use borrow.Author.Tests.{lt-ltb, le-ltb, eq-eqb, ne-eqb, ltb-true, ltb-false}
 use Rattle.bits.specs.Rows.{bits, number}
 use Rattle.bits.specs.declared.Run.{Run}
-use Rattle.bits.specs.Stuffing.{nothingSent}
 use Rattle.refusals.specs.declared.Refusal.the-variants.{FieldLength, LineLength, FixedBit}
 use Rattle.crc.specs.Crc.{crc}
 use Rattle.crc.specs.Dlc.{dataBytes}
-use Rattle.scanning.specs.Scan.{longIn, headerWidth, dataStart, identifierIn, dlcIn, complete, crcStart, crcRight, slotRight, formRight, beforeIde, Verdict, right, wrong, shown, onward, scan, scanned}
-use Rattle.scanning.specs.Held.{dataIn}
-use Rattle.scanning.specs.Steps.{widthsOf, least, twice, formRead, headerEnd, headerRead, fieldRead, crcRead, partEnd, fieldEnd, Stopped, Holds, Reads}
+use Rattle.scanning.specs.Scan.{longIn, headerWidth, dataStart, dlcIn, crcStart, crcRight, formRight, beforeIde, Verdict, right, wrong, shown, onward, scanned}
+use Rattle.scanning.specs.Steps.{twice, formRead, headerEnd, headerRead, fieldRead, crcRead, partEnd, fieldEnd, Stopped}
 use Rattle.scanning.specs.declared.Reading.{Reading}
 use Rattle.scanning.specs.declared.seen.Seen.{Seen}
 use Rattle.scanning.specs.declared.seen.Step.{Step}
 use Rattle.scanning.specs.declared.seen.Step.the-variants.{Next, Refused}
 use Rattle.scanning.proofs.Partial.{width-least, start-least}
-use Rattle.scanning.proofs.Positions.{widthAt, startOf, endOf, end-is, next-start, Stage, first-bit, ide, before-dlc, dlc, data-bits, crc-bits, ack-slot, ending, stage, first-start, form-start, data-start, frame-end, crc-known}
-use Rattle.scanning.proofs.Registers.{width, Registers, in-header, in-data, in-crc, behind, crc-length, form-told, dlc-known, form-read, dlc-read, header-put, field-put, crc-there, identifier-there, data-there}
-use Rattle.scanning.proofs.Verdicts.{bit-too-many, dlc-taken, taken-dlc, form-refused, length-refused, crc-refused, nothing-shown}
-use Rattle.scanning.proofs.RawBits.{none, twice-told}
+use Rattle.scanning.proofs.Positions.{startOf, endOf, end-is, next-start, Stage, first-bit, ide, before-dlc, dlc, data-bits, crc-bits, ack-slot, ending, stage, form-start, data-start, crc-known, early, in-header}
+use Rattle.scanning.proofs.Registers.{width, Registers, in-header, in-data, in-crc, behind, crc-length, form-told, dlc-known, form-read, dlc-read, header-put, field-put, crc-there}
+use Rattle.scanning.proofs.Verdicts.{taken-dlc, form-refused, length-refused, crc-refused, nothing-shown}
+use Rattle.scanning.proofs.RawBits.{twice-told}
 use Rattle.scanning.proofs.Passing.{rest}
-use Rattle.scanning.proofs.Keeping.{bytes, pending, Told, Formed, Between, Within, least-not}
+use Rattle.scanning.proofs.Keeping.{bytes, pending, Told, Between, Within, least-not}
 use Rattle.scanning.proofs.NextBit.{missing}
 use Rattle.scanning.proofs.Widths.{longBehind}
-
--- behind a row other than IDE, DLC and CRC the frame shows nothing, where the bit in the ACK slot may stand
-nothing-behind : (reading : Reading) (run : Run) (f : ℕ) (long : Bool) (header field n : ℕ) (frame : List ℕ) (place : ℕ) → f < 10
-    → (f ≡ 1 → ⊥) → (f ≡ 4 → ⊥) → (f ≡ 6 → ⊥) → (f ≡ 8 → slotRight reading frame ≡ true) → length frame ≡ endOf f long (header % 16)
-    → (1 < f → Formed long frame) → Registers f header field n frame → shown reading run frame place ≡ right
-nothing-behind reading run f long header field n frame place h not-ide not-dlc not-crc slot at formed registers =
-    go (stage long (header % 16) f h) registers
-  where
-    start : 4 < f → crcStart frame ≡ headerWidth long + 8 * (header % 16)
-    start = crc-known f long (header % 16) frame (λ g. formed g .form-is) (dlc-known f header field n frame registers)
-
-    -- the header's bits are fewer than those before the CRC
-    least : 19 ≤ dataStart frame
-    least = width-least (longIn frame)
-
-    most : dataStart frame ≤ crcStart frame
-    most = start-least frame .1
-
-    wide : 19 ≤ headerWidth long
-    wide = width-least long
-
-    go : Stage long (header % 16) f → Registers f header field n frame → shown reading run frame place ≡ right
-    go (first-bit g e) r =
-        nothing-shown reading run frame place (λ d. absurd (omega (arith, at))) (λ d. absurd (omega (arith, at, least)))
-        (λ d. absurd (omega (arith, at, least, most))) (λ d. absurd (omega (arith, at, least, most)))
-    go (ide g e) r = absurd (not-ide g)
-    go (before-dlc g i e) r =
-        let is = ap headerWidth (formed g .form-is) in
-        nothing-shown reading run frame place (λ d. formed g .same) (λ d. absurd (omega (arith, at, is)))
-        (λ d. absurd (omega (arith, at, is, most))) (λ d. absurd (omega (arith, at, is, most)))
-    go (dlc g e) r = absurd (not-dlc g)
-    go (data-bits g e) (in-header i d l) = absurd (omega arith)
-    go (data-bits g e) (in-data k i fine d l) =
-        let late : 4 < f = omega arith in
-        let is = dlc-known f header field n frame registers late in
-        nothing-shown reading run frame place (λ d. absurd (omega (arith, at, wide)))
-        (λ d. dlc-taken frame (λ one. fine .not-one (sym is ∙ one)) (omega (arith, fine .few, is)))
-        (λ d. absurd (omega (arith, at, start late))) (λ d. absurd (omega (arith, at, start late)))
-    go (data-bits g e) (in-crc k i put d l) = absurd (omega arith)
-    go (data-bits g e) (behind m i put d l) = absurd (omega arith)
-    go (crc-bits g e) r = absurd (not-crc g)
-    go (ack-slot i e) r =
-        let late : 4 < f = omega arith in
-        let is = ap headerWidth (formed (omega arith) .form-is) in
-        nothing-shown reading run frame place (λ d. absurd (omega (arith, at, wide))) (λ d. absurd (omega (arith, at, is)))
-        (λ d. absurd (omega (arith, at, start late))) (λ d. slot i)
-    go (ending g o e) r =
-        let late : 4 < f = omega arith in
-        let is = ap headerWidth (formed (omega arith) .form-is) in
-        nothing-shown reading run frame place (λ d. absurd (omega (arith, at, wide, o))) (λ d. absurd (omega (arith, at, is, o)))
-        (λ d. absurd (omega (arith, at, start late, o))) (λ d. absurd (e (omega (arith, at, start late))))
-
--- into a row: its bits are all to come
-abbrev pub begun : List ℕ → Seen → ℕ → Seen
-begun line seen end =
-    record {
-      stop = least end (length line);
-      end = end;
-      place = seen .place;
-      raw = seen .raw;
-      number = seen .number;
-      header = seen .header;
-      field = seen .field;
-    }
-
-pub field-begins : (reading : Reading) (line : List ℕ) (f : ℕ) (long : Bool) (seen : Seen) (run : Run) (frame : List ℕ) (width : ℕ)
-    → f < 10 → width ≡ widthAt f long (bytes seen) → Between reading line f long seen run frame
-    → Within reading line f long (begun line seen (seen .place + width)) run width frame
-unfolding widthsOf
-field-begins reading line f long seen run frame width h e b =
-    record {
-      leads = b .leads ∙ ap (λ (v : Verdict). onward (seen .place - 1) v (rest reading line seen run frame)) (sym (nothing width refl));
-      end-is = refl;
-      stop-is = refl;
-      at-is = end;
-      from = omega (arith, b .at-is);
-      formed = b .formed;
-      registers = b .registers;
-      slot = λ i z. absurd (some 8 (lit< tt) z i);
-      fresh = b .fresh;
-      reached = b .reached;
-      behind = b .behind;
-    }
-  where
-    end : length frame + width ≡ endOf f long (bytes seen)
-    end = omega (arith, b .at-is, e, end-is long (bytes seen) f)
-
-    some : (k : ℕ) → 0 < widthAt k long (bytes seen) → width ≡ 0 → f ≡ k → ⊥
-    some k p z i =
-        let same : widthAt f long (bytes seen) ≡ widthAt k long (bytes seen) = ap (λ (j : ℕ). widthAt j long (bytes seen)) i in
-        omega (arith, e, same)
-
-    nothing : (k : ℕ) → width ≡ k → pending reading run k frame (seen .place) ≡ right
-    nothing zero d =
-        nothing-behind reading run f long (seen .header) (seen .field) (seen .number) frame (seen .place - 1) h (some 1 (lit< tt) d)
-        (some 4 (lit< tt) d) (some 6 (lit< tt) d) (λ i. absurd (some 8 (lit< tt) d i)) (omega (arith, end)) (b .formed) (b .registers)
-    nothing (suc k) d = refl
-
--- before the first row
-pub line-begins : (reading : Reading) (line : List ℕ)
-    → Between reading line 0 false (record { stop = 0; end = 0; place = 0; raw = 1; number = 0; header = 0; field = 0 }) nothingSent []
-unfolding scanned bits
-line-begins reading line =
-    record {
-      leads = refl;
-      at-is = sym (first-start false 0);
-      formed = λ g. absurd (omega arith);
-      registers = in-header (omega arith) refl (lit< tt);
-      told = λ few. none refl refl refl;
-      fresh = λ e. refl;
-      reached = omega arith;
-      behind = omega arith;
-    }
-
--- ---- behind a row's last bit
+use Rattle.scanning.specs.Form.{form}
+use Rattle.scanning.proofs.Registers as registers
+use Rattle.scanning.proofs.Shown.{nothing-behind}
 
 -- the registers do not change where no part ends
 passed-on : (f header field n : ℕ) (frame : List ℕ) → (f ≡ 4 → ⊥) → (f ≡ 5 → ⊥) → (f ≡ 6 → ⊥) → Registers f header field n frame
@@ -441,40 +322,3 @@ field-ends reading line f long seen run left frame h w told over = go (ltb (seen
         (least-not (seen .end) (length line) (seen .place) (rw (w .stop-is) at over) before)
     go false d =
         part-ends reading line f long seen run left frame h w told (omega (arith, w .end-is, ltb-false (seen .place) (seen .end) d))
-
--- ---- behind the last row
-
-module _ (reading : Reading) (line : List ℕ) (long : Bool) (seen : Seen) (run : Run) (frame : List ℕ)
-    (b : Between reading line 10 long seen run frame) where
-  known : dlcIn frame ≡ bytes seen
-  known = dlc-known 10 (seen .header) (seen .field) (seen .number) frame (b .registers) (lit< tt)
-
-  ended : complete frame ≡ true
-  unfolding complete
-  ended =
-      let start = crc-known 10 long (bytes seen) frame (λ g. b .formed g .form-is) (λ g. known) (lit< tt) in
-      eq-eqb (length frame) (crcStart frame + 25) (omega (arith, b .at-is, frame-end long (bytes seen), start))
-
-  pub line-longer : seen .place < length line → Stopped (scanned reading line) (LineLength (seen .place))
-  unfolding scan
-  line-longer h = (
-    seen .place,
-    b .leads ∙ ap (scan reading run frame (seen .place)) (drop-cons line (seen .place) 0 h)
-        ∙ rw (bit-too-many reading run frame (seen .place) (getD line (seen .place) 0) ended) refl,
-  )
-
-  pub line-read : length line ≤ seen .place → Reads (Next seen) (scanned reading line)
-  unfolding scan
-  line-read h =
-      (frame, b .leads ∙ ap (scan reading run frame (seen .place)) (drop-of-length-le line h) ∙ rw ended refl, holds (b .registers))
-    where
-      holds : Registers 10 (seen .header) (seen .field) (seen .number) frame → Holds seen frame
-      holds (in-header g e l) = absurd (omega arith)
-      holds (in-data k g fine e l) = absurd (omega arith)
-      holds (in-crc k g put e l) = absurd (omega arith)
-      holds (behind m g put e l) =
-          record {
-            identifier-is = sym (ap identifierIn e ∙ identifier-there (seen .header) _ (put .fine .shaped));
-            dlc-is = sym known;
-            data-is = sym (ap dataIn e ∙ data-there (seen .header) (seen .field) _ (put .fine .shaped) (put .within));
-          }

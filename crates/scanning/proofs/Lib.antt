@@ -9,7 +9,10 @@ pub mod Registers
 pub mod LineBit
 pub mod Passing
 pub mod Keeping
+pub mod Shown
 pub mod NextBit
 pub mod Widths
+pub mod FieldBegins
 pub mod FieldEnds
+pub mod LineEnds
 pub mod Examples

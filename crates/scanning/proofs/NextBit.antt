@@ -5,7 +5,6 @@
 use mathlib.Core.Path.{_≡_, refl, sym, ap, ap₂, _∙_, subst}
 use mathlib.Core.Bool.{Bool, true, false, cond}
 use mathlib.Core.List.{List, [], _∷_, _++_}
-use mathlib.Core.Logic.{_⊎_, inl, inr}
 use Prim.Native.Nat.{ℕ, zero, suc, _+_, _-_, _*_, _%_, _^_, _≤_, _<_}
 use native.Mathlib.Nat.{lt-of-lt-of-le}
 use native.Mathlib.Omega.{arith}
@@ -18,14 +17,14 @@ use Rattle.bits.specs.declared.Run.{Run}
 use Rattle.bits.specs.Stuffing.{counted}
 use Rattle.refusals.specs.declared.Refusal.the-variants.{LineByte, LineLength, FixedBit, NotAcknowledged}
 use Rattle.scanning.specs.Form.{either, form, fits}
-use Rattle.scanning.specs.Scan.{longIn, headerWidth, dataStart, dlcIn, complete, crcStart, stuffDue, mustBe, slotMost, slotRight, Verdict, right, shown, verdict, runWith, frameWith, onward, scan, scanned}
-use Rattle.scanning.specs.Steps.{least, bitAt, oneOn, behindBit, behindEnding, passed, above, bitAtMost, fieldBit, slotBit, oneBit, andThen, delimiterBit, endingBit, lineBit, Stopped}
+use Rattle.scanning.specs.Scan.{longIn, headerWidth, dlcIn, complete, crcStart, stuffDue, mustBe, slotMost, slotRight, Verdict, shown, verdict, runWith, frameWith, onward, scan, scanned}
+use Rattle.scanning.specs.Steps.{bitAt, oneOn, behindBit, behindEnding, passed, above, bitAtMost, fieldBit, slotBit, oneBit, andThen, delimiterBit, endingBit, lineBit, Stopped}
 use Rattle.scanning.specs.declared.Reading.{Reading}
 use Rattle.scanning.specs.declared.seen.Seen.{Seen}
 use Rattle.scanning.specs.declared.seen.Step.{Step}
 use Rattle.scanning.specs.declared.seen.Step.the-variants.{Next, Refused}
-use Rattle.scanning.proofs.Partial.{width-least, width-most, start-least, must-early}
-use Rattle.scanning.proofs.Positions.{startOf, endOf, form-from, data-from, ending-from, ide-end, header-end, data-end, crc-end, end-within, slot-from, slot-end, last-from, Known, early, in-header, all-known, how-known, early-or-known, crc-known, to-the-crc, behind-the-crc, not-complete}
+use Rattle.scanning.proofs.Partial.{width-most, start-least, must-early}
+use Rattle.scanning.proofs.Positions.{endOf, form-from, ending-from, header-end, data-end, end-within, slot-from, slot-end, in-header, crc-known, to-the-crc, behind-the-crc, not-complete}
 use Rattle.scanning.proofs.Rows.{mostAt, most-bit, most-slot, must-field, must-slot, must-one}
 use Rattle.scanning.proofs.Fitting.{unfit, fit}
 use Rattle.scanning.proofs.Keeping.{bytes, pending, pending-none, Told, Formed, formed-more, Within, least-both, least-over}
@@ -35,7 +34,8 @@ use Rattle.scanning.proofs.RawBits.{Tells, told-more}
 use Rattle.scanning.proofs.Registers as registers
 use Rattle.scanning.proofs.Registers.{width, Registers, in-data, in-crc, behind, bit-added, ending-added, longer, data-length, crc-length, form-told, dlc-known}
 use Rattle.scanning.proofs.StuffDue.{due-within, due-past}
-use Rattle.scanning.proofs.Verdicts.{byte-above-1, fixed-bit, frame-bit, slot-refused, nothing-shown}
+use Rattle.scanning.proofs.Verdicts.{byte-above-1, fixed-bit, frame-bit, slot-refused}
+use Rattle.scanning.proofs.Shown.{shown-inside}
 
 counted-some : (run : Run) (b : ℕ) → counted run b ≡ 0 → ⊥
 counted-some run b = go (eqb b (run .bit))
@@ -49,44 +49,6 @@ must-first : (frame : List ℕ) → length frame ≡ 0 → mustBe frame ≡ 0
 unfolding mustBe
 must-first frame e =
     ap (λ (k : ℕ). getD (form (longIn frame) (dlcIn frame)) k either) e ∙ must-early (longIn frame) (dlcIn frame) 0 (lit< tt)
-
--- in a row, behind its first bit and before its last, nothing is shown
-shown-inside : (reading : Reading) (run : Run) (f : ℕ) (long : Bool) (n : ℕ) (frame : List ℕ) (place : ℕ) → startOf f long n < length frame
-    → length frame < endOf f long n → (1 < f → longIn frame ≡ long) → (4 < f → dlcIn frame ≡ n) → shown reading run frame place ≡ right
-shown-inside reading run f long n frame place from to formed known =
-    nothing-shown reading run frame place (λ e. absurd (ide e (ltb 1 f) refl)) (λ e. absurd (header e (how-known f long n frame formed known to)))
-    (λ e. absurd (check e sooner (ltb 6 f) refl)) (λ e. absurd (slot e sooner (ltb 8 f) refl))
-  where
-    sooner : (length frame < dataStart frame) ⊎ (crcStart frame ≡ headerWidth long + 8 * n)
-    sooner = early-or-known f long n frame formed known to
-
-    least : dataStart frame ≤ crcStart frame
-    least = start-least frame .1
-
-    ide : length frame ≡ 14 → (t : Bool) → ltb 1 f ≡ t → ⊥
-    ide e true d = omega (arith, from, form-from long n f (ltb-true 1 f d))
-    ide e false d = omega (arith, to, ide-end long n f (ltb-false 1 f d))
-
-    header : length frame ≡ dataStart frame → Known long n frame → ⊥
-    header e (early d) = omega (arith, d, width-least (longIn frame))
-    header e (in-header is d) = omega (arith, d, ap headerWidth is)
-    header e (all-known is d) = go (ltb 4 f) refl
-      where
-        go : (t : Bool) → ltb 4 f ≡ t → ⊥
-        go true g = omega (arith, e, from, data-from long n f (ltb-true 4 f g), ap headerWidth is)
-        go false g = omega (arith, e, to, header-end long n f (ltb-false 4 f g), ap headerWidth is)
-
-    check : length frame ≡ crcStart frame + 15 → (length frame < dataStart frame) ⊎ (crcStart frame ≡ headerWidth long + 8 * n) → (t : Bool)
-        → ltb 6 f ≡ t → ⊥
-    check e (inl d) t g = omega (arith, least)
-    check e (inr is) true g = omega (arith, from, ending-from long n f (ltb-true 6 f g))
-    check e (inr is) false g = omega (arith, to, crc-end long n f (ltb-false 6 f g))
-
-    slot : length frame ≡ crcStart frame + 17 → (length frame < dataStart frame) ⊎ (crcStart frame ≡ headerWidth long + 8 * n) → (t : Bool)
-        → ltb 8 f ≡ t → ⊥
-    slot e (inl d) t g = omega (arith, least)
-    slot e (inr is) true g = omega (arith, from, last-from long n f (ltb-true 8 f g))
-    slot e (inr is) false g = omega (arith, to, slot-end long n f (ltb-false 8 f g))
 
 -- in row f, with no stuff bit due before the next bit; up to the CRC the raw bits tell the run
 abbrev Ready : Reading → List ℕ → ℕ → Bool → Seen → ℕ → List ℕ → Run → Seen → Type 0

@@ -17,7 +17,9 @@ use Rattle.scanning.proofs.Rows.{readingOf, reading-told, most-bit}
 use Rattle.scanning.proofs.Partial.{width-most}
 use Rattle.scanning.proofs.Keeping.{bytes, Told, Between, Within, least-both, end-small}
 use Rattle.scanning.proofs.NextBit.{Goes, number-small, bit-goes}
-use Rattle.scanning.proofs.FieldEnds.{Ends, line-begins, field-begins, field-ends, line-longer, line-read}
+use Rattle.scanning.proofs.FieldBegins.{line-begins, field-begins}
+use Rattle.scanning.proofs.FieldEnds.{Ends, field-ends}
+use Rattle.scanning.proofs.LineEnds.{line-longer, line-read}
 use Rattle.scanning.proofs.Widths.{longBehind, width-is, widths-end}
 use Rattle.scanning.proofs.walk.along.Statement.{statement}
 use Rattle.scanning.proofs.walk.along.Tie as tie
