@@ -32,7 +32,7 @@ use Rattle.line.specs.Read.{acknowledged, own, readAnswer, payloadIn}
 use Rattle.line.specs.declared.Line.{Line}
 use Rattle.line.specs.declared.Line.the-variants.{Frame, Refused}
 use Rattle.line.proofs.AckSlot.{ack-found}
-use Rattle.line.proofs.FirstProblem.{twenty}
+use Rattle.line.proofs.Stands.{twenty}
 use Rattle.line.proofs.ReadAnswers.{read-stopped}
 use Rattle.line.proofs.ReadRefusals.{bits-refused}
 use Rattle.line.proofs.RoundTrip.{Coded, own-ack, slot-holds, read-made, accepted-is-coded, coded-is-accepted, coded-apart}

@@ -26,7 +26,8 @@ use Rattle.scanning.specs.declared.Reading.{Reading}
 use Rattle.line.specs.Ack.{withAck}
 use Rattle.line.specs.Read.{readAnswer, payloadIn}
 use Rattle.line.specs.declared.Line.the-variants.{Frame}
-use Rattle.line.proofs.RoundTrip as lines
+use Rattle.line.proofs.RoundTrip.{accepted-is-coded}
+use Rattle.line.proofs.LineTells as lines
 
 -- ---- what an identifier may be, and its bits
 
@@ -81,7 +82,7 @@ pub identifier-told : (reading : Reading) (i j : Identifier) (payload : List ℕ
     → length payload ≤ 7 → readAnswer reading (withAck ack (payloadLine j payload)) room ≡ Frame n i → i ≡ j
 identifier-told reading i j payload ack room n known bytes short accepted =
     let line = withAck ack (payloadLine j payload) in
-    let coded = lines.accepted-is-coded reading line room i n accepted in
+    let coded = accepted-is-coded reading line room i n accepted in
     let few : length (payloadIn reading line) ≤ 7 = omega (arith, coded .length-is, coded .short) in
     lines.line-tells i j (payloadIn reading line) payload (coded .ack) ack (coded .known) known (coded .bytes) bytes few short
     (sym (coded .line-is)) .0

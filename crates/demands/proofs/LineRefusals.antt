@@ -39,7 +39,9 @@ use Rattle.line.specs.Read.{acknowledged, own, withIdentifier, readAnswer}
 use Rattle.line.specs.declared.Line.the-variants.{Frame, Refused}
 use Rattle.line.proofs.BeforeIde.{before-ide}
 use Rattle.line.proofs.FixedBits.{fixed-elsewhere}
-use Rattle.line.proofs.FirstProblem.{bitNumbers, stopped-at, stopped-stays, cut-before}
+use Rattle.line.proofs.FirstProblem.{stopped-at, stopped-stays}
+use Rattle.line.proofs.Stands.{bitNumbers}
+use Rattle.line.proofs.OtherLength.{cut-before}
 use Rattle.line.proofs.ProblemMet.{problem-met, right-before, problem-stops}
 use Rattle.line.proofs.ReadAnswers.{read-stopped}
 use Rattle.line.proofs.ReadRefusals.{fieldNumbers, read-numbers, bits-refused, field-refused, refused-field, cut-line, longer-line}

@@ -1,93 +1,24 @@
 -- The one refusal that does not stand where it is met: 13 at the bit before IDE, RTR or SRR, met at IDE. Assumes nothing.
---     ide-verdict    of the verdicts on a bit, 13 at another place comes of IDE alone, which is another bit than the frame's bit before it
 --     run-step, frame-step    what is known behind a bit, from what is known before it
 --     before-ide     the place that is told is that of the frame's bit before IDE, whether or not a stuff bit stands between the two
 use mathlib.Core.Path.{_≡_, refl, sym, ap, _∙_}
-use mathlib.Core.Bool.{Bool, true, false, cond, not, _&&_}
+use mathlib.Core.Bool.{Bool, true, false, _&&_}
 use mathlib.Core.List.{List, [], _∷_, _++_}
 use mathlib.Core.Logic.{_⊎_, inl, inr}
 use Prim.Native.Nat.{ℕ, zero, suc, _+_, _-_, _≤_, _<_}
 use native.Mathlib.Omega.{arith}
-use lib.Dec.{eqb, ltb}
-use lib.ListN.{length, getD, take, length-append, List·getD-append}
+use lib.Dec.{eqb}
+use lib.ListN.{length, getD, take, length-append}
 use lib.Seq.{take-suc, getD-at}
-use borrow.Author.Tests.{ltb-false, eqb-true, eqb-false, eq-eqb, ne-eqb}
+use borrow.Author.Tests.{eqb-true, eq-eqb, ne-eqb}
 use Rattle.bits.specs.declared.Run.{Run}
 use Rattle.bits.specs.Stuffing.{nothingSent}
-use Rattle.refusals.specs.declared.Refusal.{Refusal}
-use Rattle.refusals.specs.declared.Refusal.the-variants.{FieldLength, LineByte, StuffBit, LineLength, Crc, FixedBit, NotAcknowledged}
-use Rattle.scanning.specs.Form.{form, fits}
-use Rattle.scanning.specs.Scan.{complete, stuffDue, mustBe, formRight, beforeIde, Verdict, right, wrong, shown, verdict, runWith, frameWith, runBehind, frameBehind, stopped, scanned}
+use Rattle.refusals.specs.declared.Refusal.the-variants.{LineLength, FixedBit}
+use Rattle.scanning.specs.Scan.{complete, stuffDue, beforeIde, right, wrong, verdict, runWith, frameWith, runBehind, frameBehind, stopped, scanned}
 use Rattle.scanning.specs.declared.Reading.{Reading}
-use Rattle.line.proofs.Sound.{dlcWrong, crcWrong, slotWrong, bit-right, stuff-right}
+use Rattle.line.proofs.Sound.{bit-right, stuff-right}
+use Rattle.line.proofs.Thirteen.{Ide, Thirteen, at-bit, at-ide, verdict-13}
 use Rattle.line.proofs.ProblemMet.{problem-met, right-before}
-
--- ---- the verdict on IDE
-
--- the bit is IDE, and the place that is told is this
-record Ide (run : Run) (frame : List ℕ) (place b p : ℕ) : Type 0 where
-  bit : b ≤ 1
-  none-due : stuffDue run frame ≡ false
-  thirteen : length frame ≡ 13
-  differs : getD frame 12 0 ≡ b → ⊥
-  told : beforeIde (runWith run b) place ≡ p
-
-module _ (reading : Reading) (run : Run) (frame : List ℕ) (place b p : ℕ) (elsewhere : p ≡ place → ⊥) where
-  abbrev with : List ℕ
-  with = frame ++ (b ∷ [])
-
-  abbrev early : ℕ
-  early = beforeIde (runWith run b) place
-
-  -- a refusal at this place comes of another test
-  other : (t : Bool) (r : Refusal) (v : Verdict) → (r ≡ FixedBit p → ⊥) → cond t (wrong r) v ≡ wrong (FixedBit p)
-      → (t ≡ false) × (v ≡ wrong (FixedBit p))
-  other true r v n e = let same : r ≡ FixedBit p = cc in absurd (n same)
-  other false r v n e = (refl, e)
-
-  no-stuff : (t u : Bool) (v : Verdict) → cond t (cond u (wrong (StuffBit place)) right) v ≡ wrong (FixedBit p)
-      → (t ≡ false) × (v ≡ wrong (FixedBit p))
-  no-stuff true true v e = let z : _≡_ {A = ℕ} 0 1 = cc in absurd (omega arith)
-  no-stuff true false v e = let z : _≡_ {A = ℕ} 0 1 = cc in absurd (omega arith)
-  no-stuff false u v e = (refl, e)
-
-  last : (t u v : Bool)
-      → cond t (wrong (FieldLength place)) (cond u (wrong (Crc place)) (cond v (wrong (NotAcknowledged place)) right)) ≡ wrong (FixedBit p) → ⊥
-  last true u v e = let z : _≡_ {A = ℕ} 0 1 = cc in omega arith
-  last false true v e = let z : _≡_ {A = ℕ} 0 1 = cc in omega arith
-  last false false true e = let z : _≡_ {A = ℕ} 0 1 = cc in omega arith
-  last false false false e = let z : _≡_ {A = ℕ} 0 1 = cc in omega arith
-
-  at-form : (t u : Bool) (v : Verdict) → (v ≡ wrong (FixedBit p) → ⊥) → cond (t && not u) (wrong (FixedBit early)) v ≡ wrong (FixedBit p)
-      → (t ≡ true) × (u ≡ false) × (early ≡ p)
-  at-form true false v n e = let same : FixedBit early ≡ FixedBit p = cc in (refl, refl, cc)
-  at-form true true v n e = absurd (n e)
-  at-form false u v n e = absurd (n e)
-
-  ide-verdict : verdict reading run frame place b ≡ wrong (FixedBit p) → Ide run frame place b p
-  unfolding verdict shown
-  ide-verdict e =
-      let more = other (complete frame) (LineLength place) _ (λ d. let z : _≡_ {A = ℕ} 0 1 = cc in omega arith) e in
-      let byte = other (ltb 1 b) (LineByte place) _ (λ d. let z : _≡_ {A = ℕ} 0 1 = cc in omega arith) (more .1) in
-      let stuff = no-stuff (stuffDue run frame) (eqb b (run .bit)) _ (byte .1) in
-      let fixed = other (not (fits (mustBe frame) b)) (FixedBit place) _ (λ d. elsewhere (sym (place-only d))) (stuff .1) in
-      let form = at-form (eqb (length with) 14) (formRight with) _ (last (dlcWrong with) (crcWrong with) (slotWrong reading with)) (fixed .1) in
-      let long = eqb-true (length with) 14 (form .0) in
-      let thirteen : length frame ≡ 13 = omega (arith, long, length-append frame (b ∷ [])) in
-      let before = List·getD-append frame (b ∷ []) 0 12 (omega (arith, thirteen)) in
-      let ide = getD-at frame b [] 0 13 thirteen in
-      record {
-        bit = ltb-false 1 b (byte .0);
-        none-due = stuff .0;
-        thirteen = thirteen;
-        differs = λ same. eqb-false (getD with 12 0) (getD with 13 0) (form .1) (before ∙ same ∙ sym ide);
-        told = form .2;
-      }
-    where
-      place-only : {m n : ℕ} → FixedBit m ≡ FixedBit n → m ≡ n
-      place-only d = cc
-
--- ---- what is known behind a bit
 
 run-last : (run : Run) (l : List ℕ) (b : ℕ) → runBehind run (l ++ (b ∷ [])) ≡ runWith (runBehind run l) b
 unfolding runBehind
@@ -253,10 +184,13 @@ module _ (reading : Reading) (line : List ℕ) where
   pub before-ide : (met p : ℕ) → scanned reading line ≡ stopped met (FixedBit p) → (p ≡ met → ⊥) → BitBeforeIde line met p
   before-ide met p e elsewhere = start (problem-met reading line met (FixedBit p) e)
     where
+      read : met < length line → Thirteen (runTo line met) (frameTo line met) met (bitAt met) p → BitBeforeIde line met p
+      read inside (at-bit here d) = absurd (elsewhere here)
+      read inside (at-ide i) = back p met inside i (right-before reading line met (FixedBit p) e)
+
       start : ((met < length line) × (verdict reading (runTo line met) (frameTo line met) met (bitAt met) ≡ wrong (FixedBit p)))
           ⊎ ((met ≡ length line) × (FixedBit p ≡ LineLength (length line)) × (complete (frameBehind nothingSent [] line) ≡ false))
           → BitBeforeIde line met p
       start (inl (inside, v)) =
-          back p met inside (ide-verdict reading (runTo line met) (frameTo line met) met (bitAt met) p elsewhere v)
-          (right-before reading line met (FixedBit p) e)
+          read inside (verdict-13 reading (runTo line met) (frameTo line met) met (bitAt met) p v)
       start (inr (at-end, end, more)) = let z : _≡_ {A = ℕ} 0 1 = cc in absurd (omega arith)

@@ -34,8 +34,8 @@ module _ (reading : Reading) (line : List ℕ) where
           let bytes : n ≡ dlcIn frame = cc in
           let data-bits : v ≡ dataIn frame = cc in
           let right = line-scanned reading line frame p .0 in
-          let field : fieldFrom n v ≡ fieldIn frame = ap₂ fieldFrom bytes data-bits ∙ field-there reading frame right in
-          let fits : v < 2 ^ (8 * n) = rw (bytes, data-bits) (data-fits reading frame right) in (
+          let field : fieldFrom n v ≡ fieldIn frame = ap₂ fieldFrom bytes data-bits ∙ field-there right in
+          let fits : v < 2 ^ (8 * n) = rw (bytes, data-bits) (data-fits right) in (
             ap (withIdentifier identifier) (number-fits n v room fits)
                 ∙ ap₂ (λ (i : Identifier) (l : List ℕ). withIdentifier i (decodeAnswer l room)) same field ∙ sym (read-whole reading line frame room p),
             ap payloadOf field ∙ sym (payload-whole reading line frame p),

@@ -1,6 +1,9 @@
 pub mod ReadAnswers
+pub mod Stands
 pub mod FirstProblem
+pub mod OtherLength
 pub mod ProblemMet
+pub mod Thirteen
 pub mod BeforeIde
 pub mod FixedBits
 pub mod Sound
@@ -9,9 +12,14 @@ pub mod AckSlot
 pub mod LineOf
 pub mod Fits
 pub mod Right
+pub mod SoundRight
+pub mod HeaderBits
 pub mod FrameBits
+pub mod Parts
+pub mod HeaderOf
 pub mod FrameOf
 pub mod RoundTrip
+pub mod LineTells
 pub mod FromScan
 pub mod ReadRefusals
 pub mod TwoReadings

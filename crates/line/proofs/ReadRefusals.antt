@@ -33,8 +33,11 @@ use Rattle.line.specs.Ack.{withAck}
 use Rattle.line.specs.Read.{fieldIn, withIdentifier, decoded, readAnswer}
 use Rattle.line.specs.declared.Line.the-variants.{Frame, Refused}
 use Rattle.line.proofs.ReadAnswers.{read-stopped}
-use Rattle.line.proofs.FirstProblem.{bitNumbers, OfBits, stopped-at, cut-short, made-longer}
-use Rattle.line.proofs.FrameOf.{identifier-few, field-bytes, bytes-below}
+use Rattle.line.proofs.FirstProblem.{stopped-at}
+use Rattle.line.proofs.Stands.{bitNumbers, OfBits}
+use Rattle.line.proofs.OtherLength.{cut-short, made-longer}
+use Rattle.line.proofs.FrameOf.{field-bytes, bytes-below}
+use Rattle.line.proofs.HeaderOf.{identifier-few}
 use Rattle.line.proofs.RoundTrip.{read-frame, line-scanned}
 
 -- where the bits are right, what decoding refuses with
@@ -68,7 +71,7 @@ module _ (reading : Reading) where
   allowed : (line frame : List ℕ) → scanned reading line ≡ whole frame → LengthAllowed (fieldIn frame)
   allowed line frame e =
       let right = line-scanned reading line frame e .0 in
-      let bytes = field-bytes reading frame right in
+      let bytes = field-bytes right in
       record { not-one = λ one. right .not-one (sym bytes ∙ one); at-most = omega (arith, bytes, right .at-most) }
 
   module _ (line : List ℕ) (room : ℕ) (refusal : Refusal) (e : readAnswer reading line room ≡ Refused refusal) where
@@ -114,8 +117,8 @@ module _ (reading : Reading) where
               identifierIn frame,
               fieldIn frame,
               scan .1 .0,
-              identifier-few reading frame (scan .0),
-              bytes-below reading frame (scan .0),
+              identifier-few (scan .0),
+              bytes-below (scan .0),
               may .not-one,
               may .at-most,
               scan .1 .1,

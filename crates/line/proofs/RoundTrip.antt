@@ -10,8 +10,6 @@
 --     coded-is-accepted    and each such line is accepted where the payload has room
 --     coded-apart     of which it is the line, the ACK slot apart
 --     one-line        accepted lines that give one identifier and one payload are one, but for the bit in the ACK slot
---     line-tells      a made line, whatever stands in its ACK slot, tells identifier, payload and that bit
---     forms-apart     so no line of the base form is one of the long form
 use mathlib.Core.Path.{_≡_, refl, sym, ap, ap₂, _∙_, subst}
 use mathlib.Core.List.{List, []}
 use Prim.Native.Nat.{ℕ, _-_, _≤_}
@@ -29,21 +27,22 @@ use Rattle.decoding.specs.Decode.{decodeAnswer}
 use Rattle.decoding.proofs.Accepted.{accepted}
 use Rattle.decoding.proofs.RoundTrip.{decode-encode, payload-of-field, field-of-payload}
 use Rattle.frame.specs.declared.Identifier.{Identifier}
-use Rattle.frame.specs.declared.Identifier.the-variants.{Base, Long}
 use Rattle.frame.specs.Identifier.{Allowed}
 use Rattle.frame.specs.Line.{frameLine}
 use Rattle.frame.specs.Answers.{payloadLine}
 use Rattle.scanning.specs.Scan.{identifierIn, slotMost, Scanned, whole, stopped, scanned}
 use Rattle.scanning.specs.declared.Reading.{Reading}
-use Rattle.line.specs.Read.{own, fieldIn, withIdentifier, decoded, readAnswer, payloadIn}
+use Rattle.line.specs.Read.{fieldIn, withIdentifier, decoded, readAnswer, payloadIn}
 use Rattle.line.specs.Ack.{withAck}
 use Rattle.line.specs.declared.Line.the-variants.{Frame}
 use Rattle.line.proofs.OnLine.{lineFrom, sound-whole, whole-sound}
 use Rattle.line.proofs.AckSlot.{line-own, ack-again, ack-holds}
 use Rattle.line.proofs.LineOf.{line-of}
-use Rattle.line.proofs.Right.{Right, right-sound, sound-right}
+use Rattle.line.proofs.Right.{Right, right-sound}
+use Rattle.line.proofs.SoundRight.{sound-right}
 use Rattle.line.proofs.FrameBits.{headerBits, dataBits, frameBits, frame-start, frame-right, identifier-back, field-back}
-use Rattle.line.proofs.FrameOf.{right-frame, identifier-few, field-bytes, bytes-below}
+use Rattle.line.proofs.FrameOf.{right-frame, field-bytes, bytes-below}
+use Rattle.line.proofs.HeaderOf.{identifier-few}
 
 -- the line of a frame's bits
 frame-line : (identifier : Identifier) (field : List ℕ) (ack : ℕ) → length field ≤ 8
@@ -131,8 +130,8 @@ module _ (reading : Reading) where
       let taken = whole-sound reading nothingSent [] line frame 0 (lit< tt) e in
       let right : Right reading frame = rw (taken .all-is) at (sound-right reading (taken .bits) (taken .sound)) in
       let field = fieldIn frame in
-      let few : length field ≤ 8 = omega (arith, field-bytes reading frame right, right .at-most) in
-      let is = right-frame reading frame right in (
+      let few : length field ≤ 8 = omega (arith, field-bytes right, right .at-most) in
+      let is = right-frame right in (
         right,
         (
           is .0,
@@ -148,9 +147,9 @@ module _ (reading : Reading) where
   whole-coded line frame room identifier n e is d =
       let scan = line-scanned line frame e in
       let field = accepted (fieldIn frame) room n d in
-      let back = field-of-payload (fieldIn frame) room n (bytes-below reading frame (scan .0)) d in
+      let back = field-of-payload (fieldIn frame) room n (bytes-below (scan .0)) d in
       record {
-        known = subst (λ (i : Identifier). Allowed i) is (identifier-few reading frame (scan .0));
+        known = subst (λ (i : Identifier). Allowed i) is (identifier-few (scan .0));
         length-is = rw e (back .1);
         short = back .2;
         fits = omega (arith, field .size-is, field .begun .fits);
@@ -188,25 +187,3 @@ pub one-line : (reading other : Reading) (line line′ : List ℕ) (room room′
 one-line reading other line line′ room room′ identifier n n′ e e′ same =
     coded-apart reading line room identifier n (accepted-is-coded reading line room identifier n e) ∙ ap (payloadLine identifier) same
     ∙ sym (coded-apart other line′ room′ identifier n′ (accepted-is-coded other line′ room′ identifier n′ e′))
-
-pub line-tells : (i j : Identifier) (p q : List ℕ) (a b : ℕ) → Allowed i → Allowed j
-    → Below 256 p → Below 256 q → length p ≤ 7 → length q ≤ 7
-    → withAck a (payloadLine i p) ≡ withAck b (payloadLine j q) → (i ≡ j) × (p ≡ q) × (a ≡ b)
-line-tells i j p q a b known known′ bytes bytes′ short short′ e =
-    let made = sym (slot-apart i (fieldOf p) a) ∙ ap (withAck 1) e ∙ slot-apart j (fieldOf q) b in
-    let line = ap (withAck 1) made in
-    let first = read-made own i p 1 7 known bytes short short (omega arith) in
-    let second = read-made own j q 1 7 known′ bytes′ short′ short′ (omega arith) in
-    let same : Frame (length p) i ≡ Frame (length q) j = sym (first .0) ∙ ap (λ (l : List ℕ). readAnswer own l 7) line ∙ second .0 in (
-      cc,
-      sym (first .1) ∙ ap (payloadIn own) line ∙ second .1,
-      sym (slot-holds i (fieldOf p) a) ∙ ap (λ (l : List ℕ). getD l (length l - 9) 0) e ∙ slot-holds j (fieldOf q) b,
-    )
-
-pub forms-apart : (x y : ℕ) (p q : List ℕ) (a b : ℕ) → x ≤ 2047 → y ≤ 536870911
-    → Below 256 p → Below 256 q → length p ≤ 7 → length q ≤ 7
-    → withAck a (payloadLine (Base x) p) ≡ withAck b (payloadLine (Long y) q) → ⊥
-forms-apart x y p q a b known known′ bytes bytes′ short short′ e =
-    let same : Base x ≡ Long y = line-tells (Base x) (Long y) p q a b known known′ bytes bytes′ short short′ e .0 in
-    let z : _≡_ {A = ℕ} 0 1 = cc in
-    omega arith

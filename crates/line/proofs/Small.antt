@@ -32,7 +32,8 @@ use Rattle.line.specs.declared.Line.{Line}
 use Rattle.line.specs.declared.Line.the-variants.{Frame, Refused}
 use Rattle.line.proofs.ReadAnswers.{Bit31Free}
 use Rattle.line.proofs.Sound.{Next, bit-right, stuff-right}
-use Rattle.line.proofs.FirstProblem.{At, verdict-at, never, stopped-only}
+use Rattle.line.proofs.FirstProblem.{never, stopped-only}
+use Rattle.line.proofs.Stands.{At, verdict-at}
 use Rattle.line.proofs.RoundTrip.{accepted-is-coded}
 
 -- the frame's bits so far are no more than a frame has

@@ -5,13 +5,13 @@
 --     same-answer      where reading a line from a live bus is not answered with 20, reading it as our own is answered the same
 --     not-acknowledged    where it is, the ACK slot is at that place and holds a 1, and every bit to its left is right, for both
 --     own-never-20        reading it as our own is never answered with 20
-use mathlib.Core.Path.{_≡_, refl, sym, ap, ap₂, _∙_}
+use mathlib.Core.Path.{_≡_, refl, sym, ap, _∙_}
 use mathlib.Core.Bool.{Bool, true, false, cond, not, _&&_}
 use mathlib.Core.List.{List, [], _∷_, _++_}
 use mathlib.Core.Logic.{_⊎_, inl, inr}
 use Prim.Native.Nat.{ℕ, _+_, _≤_, _<_}
 use native.Mathlib.Omega.{arith}
-use lib.Dec.{eqb, leb, ltb}
+use lib.Dec.{eqb, ltb}
 use lib.ListN.{length, getD, take, length-append}
 use lib.Seq.{getD-append-add}
 use borrow.Author.Tests.{le-leb, leb-false, ltb-false, eqb-true}
@@ -20,14 +20,13 @@ use Rattle.bits.specs.Stuffing.{nothingSent}
 use Rattle.refusals.specs.declared.Refusal.{Refusal}
 use Rattle.refusals.specs.declared.Refusal.the-variants.{FieldLength, LineByte, StuffBit, LineLength, Crc, FixedBit, NotAcknowledged}
 use Rattle.scanning.specs.Form.{fits}
-use Rattle.scanning.specs.Scan.{headerWidth, dataStart, crcStart, complete, stuffDue, mustBe, slotMost, slotRight, beforeIde, Verdict, right, wrong, shown, verdict, runWith, frameWith, runBehind, frameBehind, Scanned, whole, stopped, onward, scan, scanned}
+use Rattle.scanning.specs.Scan.{headerWidth, dataStart, crcStart, complete, stuffDue, mustBe, slotMost, slotRight, beforeIde, Verdict, right, wrong, shown, verdict, runWith, frameWith, runBehind, frameBehind, Scanned, stopped, onward, scan, scanned}
 use Rattle.scanning.specs.declared.Reading.{Reading}
 use Rattle.scanning.proofs.Partial.{start-least, long-stays, start-stays}
 use Rattle.line.specs.Read.{acknowledged, own, decoded, readAnswer, carried, payloadIn}
-use Rattle.line.specs.declared.Line.{Line}
 use Rattle.line.specs.declared.Line.the-variants.{Refused}
 use Rattle.line.proofs.Sound.{formWrong, dlcWrong, crcWrong, slotWrong}
-use Rattle.line.proofs.FirstProblem.{twenty}
+use Rattle.line.proofs.Stands.{twenty}
 use Rattle.line.proofs.ProblemMet.{problem-met, right-before}
 use Rattle.line.proofs.ReadRefusals.{refused-there}
 

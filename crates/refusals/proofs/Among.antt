@@ -1,8 +1,7 @@
 -- One of some numbers. Assumes nothing.
 --     among-apart          not one of others too, where no number is among both
 --     among-first, among-last, among-split    of numbers that stand before or behind others
-use mathlib.Core.Path.{_≡_, refl}
-use mathlib.Core.Bool.{Bool, true, false, not, _&&_}
+use mathlib.Core.Bool.{Bool, true, not, _&&_}
 use mathlib.Core.List.{List, [], _∷_, _++_}
 use mathlib.Core.Logic.{_⊎_, inl, inr}
 use Prim.Native.Nat.{ℕ}

@@ -15,12 +15,12 @@ use Rattle.scanning.specs.Scan.{Verdict, right, onward, scanned}
 use Rattle.scanning.specs.Steps.{widthsOf, least}
 use Rattle.scanning.specs.declared.Reading.{Reading}
 use Rattle.scanning.specs.declared.seen.Seen.{Seen}
-use Rattle.scanning.proofs.Positions.{widthAt, endOf, end-is, first-start, in-header}
-use Rattle.scanning.proofs.Registers.{width, in-header, behind}
+use Rattle.scanning.proofs.Positions.{widthAt, endOf, end-is, first-start}
+use Rattle.scanning.proofs.Known.{in-header}
+use Rattle.scanning.proofs.Registers.{in-header}
 use Rattle.scanning.proofs.RawBits.{none}
 use Rattle.scanning.proofs.Passing.{rest}
 use Rattle.scanning.proofs.Keeping.{bytes, pending, Between, Within}
-use Rattle.scanning.proofs.Registers as registers
 use Rattle.scanning.proofs.Shown.{nothing-behind}
 
 -- into a row: its bits are all to come

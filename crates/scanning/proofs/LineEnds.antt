@@ -10,7 +10,6 @@ use lib.Dec.{lit<}
 use lib.ListN.{length, getD, drop-of-length-le}
 use lib.Seq.{drop-cons}
 use borrow.Author.Tests.{eq-eqb}
-use Rattle.bits.specs.Rows.{number}
 use Rattle.bits.specs.declared.Run.{Run}
 use Rattle.refusals.specs.declared.Refusal.the-variants.{LineLength}
 use Rattle.scanning.specs.Scan.{identifierIn, dlcIn, complete, crcStart, scan, scanned}
@@ -19,16 +18,17 @@ use Rattle.scanning.specs.Steps.{Stopped, Holds, Reads}
 use Rattle.scanning.specs.declared.Reading.{Reading}
 use Rattle.scanning.specs.declared.seen.Seen.{Seen}
 use Rattle.scanning.specs.declared.seen.Step.the-variants.{Next}
-use Rattle.scanning.proofs.Positions.{frame-end, crc-known, in-header}
-use Rattle.scanning.proofs.Registers.{Registers, in-header, in-data, in-crc, behind, dlc-known, identifier-there, data-there}
+use Rattle.scanning.proofs.Positions.{frame-end}
+use Rattle.scanning.proofs.Known.{crc-known, in-header}
+use Rattle.scanning.proofs.HeaderNumber.{identifier-in}
+use Rattle.scanning.proofs.Registers.{Registers, in-header, in-data, in-crc, behind, dlc-known, data-there}
 use Rattle.scanning.proofs.Verdicts.{bit-too-many}
 use Rattle.scanning.proofs.Keeping.{bytes, Between}
-use Rattle.scanning.proofs.Registers as registers
 
 module _ (reading : Reading) (line : List ℕ) (long : Bool) (seen : Seen) (run : Run) (frame : List ℕ)
     (b : Between reading line 10 long seen run frame) where
   known : dlcIn frame ≡ bytes seen
-  known = dlc-known 10 (seen .header) (seen .field) (seen .number) frame (b .registers) (lit< tt)
+  known = dlc-known (b .registers) (lit< tt)
 
   ended : complete frame ≡ true
   unfolding complete
@@ -55,7 +55,7 @@ module _ (reading : Reading) (line : List ℕ) (long : Bool) (seen : Seen) (run 
       holds (in-crc k g put e l) = absurd (omega arith)
       holds (behind m g put e l) =
           record {
-            identifier-is = sym (ap identifierIn e ∙ identifier-there (seen .header) _ (put .fine .shaped));
+            identifier-is = sym (ap identifierIn e ∙ identifier-in (put .fine .shaped) _);
             dlc-is = sym known;
-            data-is = sym (ap dataIn e ∙ data-there (seen .header) (seen .field) _ (put .fine .shaped) (put .within));
+            data-is = sym (ap dataIn e ∙ data-there _ put);
           }

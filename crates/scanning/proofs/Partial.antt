@@ -11,7 +11,7 @@
 --     form-is        a frame's form, part by part
 use mathlib.Core.Path.{_≡_, refl, sym, ap, ap₂, _∙_}
 use mathlib.Core.Bool.{Bool, true, false, cond}
-use mathlib.Core.List.{List, [], _∷_, _++_, append-assoc}
+use mathlib.Core.List.{List, [], _∷_, _++_}
 use Prim.Native.Nat.{ℕ, _+_, _-_, _*_, _≤_, _<_}
 use native.Mathlib.Omega.{arith}
 use lib.Dec.{eqb, ltb}
@@ -19,7 +19,7 @@ use lib.ListN.{length, getD, take, drop, length-append, length-drop, List·getD-
 use lib.Seq.{take-append-le, drop-append-le}
 use borrow.Author.Tests.{le-ltb, ltb-true, ltb-false}
 use Rattle.bits.specs.Rows.{number}
-use Rattle.frame.specs.Header.{headerOf, longPart}
+use Rattle.frame.specs.Header.{longPart}
 use Rattle.frame.specs.Line.{ending}
 use Rattle.scanning.specs.Form.{either, free, headerForm, form}
 use Rattle.scanning.specs.Scan.{longIn, headerWidth, dataStart, dlcIn, crcStart, mustBe}

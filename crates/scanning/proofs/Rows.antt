@@ -24,7 +24,8 @@ use Rattle.scanning.specs.declared.AckSlot.{AckSlot}
 use Rattle.scanning.specs.declared.AckSlot.the-variants.{Acknowledged, Either}
 use Rattle.scanning.specs.declared.Reading.{Reading}
 use Rattle.scanning.proofs.Partial.{must-early, must-header}
-use Rattle.scanning.proofs.Positions.{before, startOf, endOf, end-is, Known, early, in-header, all-known, how-known}
+use Rattle.scanning.proofs.Positions.{before, startOf, endOf, end-is}
+use Rattle.scanning.proofs.Known.{Known, early, in-header, all-known, how-known}
 
 -- the greatest bit that may stand in row f
 abbrev pub mostAt : Reading → ℕ → ℕ

@@ -9,18 +9,18 @@ use native.Mathlib.Omega.{arith}
 use lib.Dec.{ltb}
 use lib.ListN.{length}
 use borrow.Author.Tests.{ltb-true, ltb-false}
-use Rattle.bits.specs.Rows.{bits}
 use Rattle.bits.specs.declared.Run.{Run}
 use Rattle.scanning.specs.Scan.{longIn, headerWidth, dataStart, dlcIn, crcStart, slotRight, right, shown}
 use Rattle.scanning.specs.Steps.{least}
 use Rattle.scanning.specs.declared.Reading.{Reading}
 use Rattle.scanning.proofs.Partial.{width-least, start-least}
-use Rattle.scanning.proofs.Positions.{startOf, endOf, Stage, first-bit, ide, before-dlc, dlc, data-bits, crc-bits, ack-slot, ending, stage, crc-known, form-from, data-from, ending-from, ide-end, header-end, crc-end, slot-end, last-from, Known, early, in-header, all-known, how-known, early-or-known}
+use Rattle.scanning.proofs.Positions.{startOf, endOf, form-from, data-from, ending-from, ide-end, header-end, crc-end, slot-end, last-from}
+use Rattle.scanning.proofs.Stages.{Stage, first-bit, ide, before-dlc, dlc, data-bits, crc-bits, ack-slot, ending, stage}
+use Rattle.scanning.proofs.Known.{crc-known, Known, early, in-header, all-known, how-known, early-or-known}
 use Rattle.scanning.proofs.Registers.{Registers, in-header, in-data, in-crc, behind, dlc-known}
 use Rattle.scanning.proofs.Verdicts.{dlc-taken, nothing-shown}
 use Rattle.scanning.proofs.Keeping.{Formed}
 use mathlib.Core.Logic.{_⊎_, inl, inr}
-use Rattle.scanning.proofs.Registers as registers
 
 -- in a row, behind its first bit and before its last, nothing is shown
 pub shown-inside : (reading : Reading) (run : Run) (f : ℕ) (long : Bool) (n : ℕ) (frame : List ℕ) (place : ℕ) → startOf f long n < length frame
@@ -68,7 +68,7 @@ nothing-behind reading run f long header field n frame place h not-ide not-dlc n
     go (stage long (header % 16) f h) registers
   where
     start : 4 < f → crcStart frame ≡ headerWidth long + 8 * (header % 16)
-    start = crc-known f long (header % 16) frame (λ g. formed g .form-is) (dlc-known f header field n frame registers)
+    start = crc-known f long (header % 16) frame (λ g. formed g .form-is) (dlc-known registers)
 
     -- the header's bits are fewer than those before the CRC
     least : 19 ≤ dataStart frame
@@ -93,7 +93,7 @@ nothing-behind reading run f long header field n frame place h not-ide not-dlc n
     go (data-bits g e) (in-header i d l) = absurd (omega arith)
     go (data-bits g e) (in-data k i fine d l) =
         let late : 4 < f = omega arith in
-        let is = dlc-known f header field n frame registers late in
+        let is = dlc-known registers late in
         nothing-shown reading run frame place (λ d. absurd (omega (arith, at, wide)))
         (λ d. dlc-taken frame (λ one. fine .not-one (sym is ∙ one)) (omega (arith, fine .few, is)))
         (λ d. absurd (omega (arith, at, start late))) (λ d. absurd (omega (arith, at, start late)))

@@ -22,7 +22,7 @@ use borrow.Author.Tests.{lt-ltb, le-ltb, eq-eqb, ne-eqb, ltb-false, eqb-true, eq
 use Rattle.bits.specs.declared.Run.{Run}
 use Rattle.refusals.specs.declared.Refusal.the-variants.{FieldLength, LineByte, StuffBit, LineLength, Crc, FixedBit, NotAcknowledged}
 use Rattle.scanning.specs.Form.{fits}
-use Rattle.scanning.specs.Scan.{longIn, headerWidth, dataStart, dlcIn, crcStart, complete, stuffDue, mustBe, dlcRefused, crcRight, slotRight, formRight, beforeIde, right, wrong, shown, verdict, runWith}
+use Rattle.scanning.specs.Scan.{dataStart, dlcIn, crcStart, complete, stuffDue, mustBe, dlcRefused, crcRight, slotRight, formRight, beforeIde, right, wrong, shown, verdict, runWith}
 use Rattle.scanning.specs.declared.Reading.{Reading}
 
 -- the bit b, in the place where the frame's bits so far and the run are these

@@ -92,6 +92,19 @@ oneOn raw number seen =
       field = seen .field;
     }
 
+-- no place on, with these in `number`, `header` and `field`
+abbrev pub holding : ℕ → ℕ → ℕ → Seen → Seen
+holding number header field seen =
+    record {
+      stop = seen .stop;
+      end = seen .end;
+      place = seen .place;
+      raw = seen .raw;
+      number = number;
+      header = header;
+      field = field;
+    }
+
 -- what is seen behind a bit; it is kept up to the CRC
 abbrev pub behindBit : ℕ → Seen → Seen
 behindBit bit seen = oneOn (seen .raw * 2 % 2 ^ 64 + bit) (seen .number * 2 + bit) seen
@@ -176,28 +189,11 @@ headerWidths f seen widths = cond (eqb f 1) (formWidths seen widths) widths
 unfoldable pub headerRead : Seen → Step
 headerRead seen =
     cond (eqb (seen .number % 16) 1 || ltb 8 (seen .number % 16)) (Refused (FieldLength (seen .place - 1)))
-    (Next (record {
-      stop = seen .stop;
-      end = seen .end;
-      place = seen .place;
-      raw = seen .raw;
-      number = 0;
-      header = seen .number;
-      field = seen .field;
-    }))
+    (Next (holding 0 (seen .number) (seen .field) seen))
 
 -- behind the last data bit the data field is whole
 unfoldable pub fieldRead : Seen → Step
-fieldRead seen =
-    Next (record {
-      stop = seen .stop;
-      end = seen .end;
-      place = seen .place;
-      raw = seen .raw;
-      number = 0;
-      header = seen .header;
-      field = seen .number;
-    })
+fieldRead seen = Next (holding 0 (seen .header) (seen .number) seen)
 
 -- behind the last bit of the CRC: 12, or it is right
 unfoldable pub crcRead : Seen → Step

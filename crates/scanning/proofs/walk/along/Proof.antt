@@ -16,9 +16,12 @@ use Rattle.scanning.proofs.Positions.{endOf, end-is, next-start, form-s
 use Rattle.scanning.proofs.Rows.{readingOf, reading-told, most-bit}
 use Rattle.scanning.proofs.Partial.{width-most}
 use Rattle.scanning.proofs.Keeping.{bytes, Told, Between, Within, least-both, end-small}
-use Rattle.scanning.proofs.NextBit.{Goes, number-small, bit-goes}
+use Rattle.scanning.proofs.InRow.{number-small}
+use Rattle.scanning.proofs.FrameBit.{Goes}
+use Rattle.scanning.proofs.NextBit.{bit-goes}
 use Rattle.scanning.proofs.FieldBegins.{line-begins, field-begins}
-use Rattle.scanning.proofs.FieldEnds.{Ends, field-ends}
+use Rattle.scanning.proofs.RowEnd.{Ends}
+use Rattle.scanning.proofs.FieldEnds.{field-ends}
 use Rattle.scanning.proofs.LineEnds.{line-longer, line-read}
 use Rattle.scanning.proofs.Widths.{longBehind, width-is, widths-end}
 use Rattle.scanning.proofs.walk.along.Statement.{statement}
@@ -106,7 +109,7 @@ next-requires c κs =
     let table = ap (λ (l : List ℕ). getD l i 0) (start .before .most .ensures) in (
       both .1,
       omega (arith, small, start .before .before .before .before .good),
-      number-small _ _ i (known .0) (l .seen) (known .2) (known .3) (known .1) (l .inv .0) w some,
+      number-small w (l .inv .0) some,
       rw table (most-bit _ i (l .inv .0)),
     )
 
@@ -127,7 +130,7 @@ goes c =
     let told = start .before .most .ensures in
     let row = ap (λ (l : List ℕ). getD l i 0) (told ∙ ap mostOf (sym (reading-told _ _ told))) in
     subst (Goes _ line i (known .0) (l .seen)) (sym (c .next .ensures))
-    (bit-goes _ line i (known .0) (l .seen) (known .2) (known .3) (known .1) (l .inv .0) w (known .5) before _ row)
+    (bit-goes (l .inv .0) w (known .5) before _ row)
 
 enum-known-next : tie.Need-enum-known-next Inv-loop μ-loop Inv-line μ-line
 enum-known-next c = search needs
@@ -171,7 +174,7 @@ ends c =
     let i = at .before .before .before .before .line .i in
     let known = l .inv .1 in
     subst (Ends _ _ _ _ _ _) (sym (c .judge .ensures .0))
-    (field-ends _ _ i (known .0) (l .seen) (known .2) (known .3) (known .1) (l .inv .0) (known .4) (known .5) (c .before .before .if3 .left))
+    (field-ends (l .inv .0) (known .4) (known .5) (c .before .before .if3 .left))
 
 enum-known-next-2 : tie.Need-enum-known-next-2 Inv-loop μ-loop Inv-line μ-line
 enum-known-next-2 c = search needs
