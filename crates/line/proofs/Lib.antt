@@ -1,4 +1,6 @@
 pub mod ReadAnswers
+pub mod Sound
+pub mod Fault
 pub mod Stands
 pub mod FirstProblem
 pub mod OtherLength
@@ -6,7 +8,6 @@ pub mod ProblemMet
 pub mod Thirteen
 pub mod BeforeIde
 pub mod FixedBits
-pub mod Sound
 pub mod OnLine
 pub mod AckSlot
 pub mod LineOf
@@ -22,6 +23,7 @@ pub mod RoundTrip
 pub mod LineTells
 pub mod FromScan
 pub mod ReadRefusals
+pub mod Twenty
 pub mod TwoReadings
 pub mod Examples
 pub mod Small

@@ -1,5 +1,5 @@
 -- The bits with which a scan finds no fault. Assumes nothing.
---     formWrong, dlcWrong, crcWrong, slotWrong    the tests behind 13 at the bit before IDE, 3, 12 and 20, of a frame's bits so far
+--     formWrong, dlcWrong, crcWrong, slotWrong, both-met    the tests behind 13 at the bit before IDE, 3, 12 and 20, of a frame's bits so far
 --     Next            a frame's bits so far may go on with this bit
 --     Sound           and with these bits, which make it complete
 --     bit-right, right-bit       where no stuff bit is due, the scan finds no fault with these bits, and with no others
@@ -32,6 +32,12 @@ crcWrong frame = eqb (length frame) (crcStart frame + 15) && not (crcRight frame
 
 abbrev pub slotWrong : Reading → List ℕ → Bool
 slotWrong reading frame = eqb (length frame) (crcStart frame + 17) && not (slotRight reading frame)
+
+-- such a test is met
+pub both-met : (s t : Bool) → s && not t ≡ true → (s ≡ true) × (t ≡ false)
+both-met true false e = (refl, refl)
+both-met true true e = absurd (true≢false (sym e))
+both-met false t e = absurd (true≢false (sym e))
 
 pub record Next (reading : Reading) (frame : List ℕ) (bit : ℕ) : Type 0 where
   pub below : bit < 2

@@ -1,6 +1,5 @@
 -- The two readings of a line, one that takes only a 0 in the ACK slot and one that takes either: they say the same, but for 20. Assumes
 -- nothing.
---     unheard          what is refused with 20 is the bit in the ACK slot, and a 1, by a reading that does not take it
 --     verdict-same     of each bit both say the same, or one says 20
 --     same-answer      where reading a line from a live bus is not answered with 20, reading it as our own is answered the same
 --     not-acknowledged    where it is, the ACK slot is at that place and holds a 1, and every bit to its left is right, for both
@@ -12,23 +11,21 @@ use mathlib.Core.Logic.{_⊎_, inl, inr}
 use Prim.Native.Nat.{ℕ, _+_, _≤_, _<_}
 use native.Mathlib.Omega.{arith}
 use lib.Dec.{eqb, ltb}
-use lib.ListN.{length, getD, take, length-append}
-use lib.Seq.{getD-append-add}
-use borrow.Author.Tests.{le-leb, leb-false, ltb-false, eqb-true}
+use lib.ListN.{length, getD, take}
+use borrow.Author.Tests.{le-leb, ltb-false, eqb-true}
 use Rattle.bits.specs.declared.Run.{Run}
 use Rattle.bits.specs.Stuffing.{nothingSent}
-use Rattle.refusals.specs.declared.Refusal.{Refusal}
 use Rattle.refusals.specs.declared.Refusal.the-variants.{FieldLength, LineByte, StuffBit, LineLength, Crc, FixedBit, NotAcknowledged}
 use Rattle.scanning.specs.Form.{fits}
-use Rattle.scanning.specs.Scan.{headerWidth, dataStart, crcStart, complete, stuffDue, mustBe, slotMost, slotRight, beforeIde, Verdict, right, wrong, shown, verdict, runWith, frameWith, runBehind, frameBehind, Scanned, stopped, onward, scan, scanned}
+use Rattle.scanning.specs.Scan.{crcStart, complete, stuffDue, mustBe, slotRight, beforeIde, Verdict, right, wrong, shown, verdict, runWith, frameWith, runBehind, frameBehind, Scanned, stopped, onward, scan, scanned}
 use Rattle.scanning.specs.declared.Reading.{Reading}
-use Rattle.scanning.proofs.Partial.{start-least, long-stays, start-stays}
 use Rattle.line.specs.Read.{acknowledged, own, decoded, readAnswer, carried, payloadIn}
 use Rattle.line.specs.declared.Line.the-variants.{Refused}
 use Rattle.line.proofs.Sound.{formWrong, dlcWrong, crcWrong, slotWrong}
 use Rattle.line.proofs.Stands.{twenty}
 use Rattle.line.proofs.ProblemMet.{problem-met, right-before}
 use Rattle.line.proofs.ReadRefusals.{refused-there}
+use Rattle.line.proofs.Twenty.{slot-bit, unheard}
 
 -- ---- a bit
 
@@ -39,59 +36,6 @@ module _ (run : Run) (frame : List ℕ) (place b : ℕ) where
 
   abbrev early : ℕ
   early = beforeIde (runWith run b) place
-
-  slot-bit : length with ≡ crcStart with + 17 → getD with (crcStart with + 16) 0 ≡ b
-  slot-bit e =
-      let at : crcStart with + 16 ≡ length frame + 0 = omega (arith, length-append frame (b ∷ [])) in
-      ap (λ (k : ℕ). getD with k 0) at ∙ getD-append-add frame (b ∷ []) 0 0
-
-  -- another refusal than 20 comes of another test
-  module _ (p : ℕ) where
-    other : (t : Bool) (r : Refusal) (v : Verdict) → (r ≡ NotAcknowledged p → ⊥) → cond t (wrong r) v ≡ wrong (NotAcknowledged p)
-        → v ≡ wrong (NotAcknowledged p)
-    other true r v n e = let same : r ≡ NotAcknowledged p = cc in absurd (n same)
-    other false r v n e = e
-
-    at-slot : (t : Bool) → cond t (wrong (NotAcknowledged place)) right ≡ wrong (NotAcknowledged p) → (t ≡ true) × (place ≡ p)
-    at-slot true e = let same : NotAcknowledged place ≡ NotAcknowledged p = cc in (refl, cc)
-    at-slot false e = let z : _≡_ {A = ℕ} 0 1 = cc in absurd (omega arith)
-
-    no-stuff : (t u : Bool) (v : Verdict) → cond t (cond u (wrong (StuffBit place)) right) v ≡ wrong (NotAcknowledged p) → v ≡ wrong (NotAcknowledged p)
-    no-stuff true true v e = let z : _≡_ {A = ℕ} 0 1 = cc in absurd (omega arith)
-    no-stuff true false v e = let z : _≡_ {A = ℕ} 0 1 = cc in absurd (omega arith)
-    no-stuff false u v e = e
-
-    both : (s t : Bool) → (s && not t) ≡ true → (s ≡ true) × (t ≡ false)
-    both true false e = (refl, refl)
-    both true true e = let z : _≡_ {A = ℕ} 0 1 = cc in absurd (omega arith)
-    both false t e = let z : _≡_ {A = ℕ} 0 1 = cc in absurd (omega arith)
-
-    bit-low : (t : Bool) (v : Verdict) → ltb 1 b ≡ t → cond t (wrong (LineByte place)) v ≡ wrong (NotAcknowledged p) → b ≤ 1
-    bit-low true v d e = let z : _≡_ {A = ℕ} 0 1 = cc in absurd (omega arith)
-    bit-low false v d e = ltb-false 1 b d
-
-    pub unheard : (reading : Reading) → verdict reading run frame place b ≡ wrong (NotAcknowledged p)
-        → (place ≡ p) × (b ≡ 1) × (slotMost (reading .slot) ≡ 0) × (length frame ≡ crcStart frame + 16)
-    unfolding verdict shown
-    unheard reading e =
-        let more = other (complete frame) (LineLength place) _ (λ d. let z : _≡_ {A = ℕ} 0 1 = cc in omega arith) e in
-        let low = bit-low (ltb 1 b) _ refl more in
-        let byte = other (ltb 1 b) (LineByte place) _ (λ d. let z : _≡_ {A = ℕ} 0 1 = cc in omega arith) more in
-        let bit = no-stuff (stuffDue run frame) (eqb b (run .bit)) _ byte in
-        let fixed = other (not (fits (mustBe frame) b)) (FixedBit place) _ (λ d. let z : _≡_ {A = ℕ} 0 1 = cc in omega arith) bit in
-        let form = other (formWrong with) (FixedBit early) _ (λ d. let z : _≡_ {A = ℕ} 0 1 = cc in omega arith) fixed in
-        let dlc = other (dlcWrong with) (FieldLength place) _ (λ d. let z : _≡_ {A = ℕ} 0 1 = cc in omega arith) form in
-        let check = other (crcWrong with) (Crc place) _ (λ d. let z : _≡_ {A = ℕ} 0 1 = cc in omega arith) dlc in
-        let slot = at-slot (slotWrong reading with) check in
-        let tests = both (eqb (length with) (crcStart with + 17)) (slotRight reading with) (slot .0) in
-        let here = eqb-true (length with) (crcStart with + 17) (tests .0) in
-        let over = leb-false (getD with (crcStart with + 16) 0) (slotMost (reading .slot)) (tests .1) in
-        let is = slot-bit here in
-        let one = length-append frame (b ∷ []) in
-        let least = start-least with in
-        let same : dataStart with ≡ dataStart frame = ap headerWidth (long-stays frame (b ∷ []) (omega (arith, here, one, least .0))) in
-        let stays = start-stays frame (b ∷ []) (omega (arith, here, one, least .1, same)) in
-        (slot .1, omega (arith, over, is), omega (arith, over, is), omega (arith, here, one, stays))
 
   -- whichever way the other tests go
   tests-same : (t a c d e i f g h : Bool) →
@@ -113,7 +57,7 @@ module _ (run : Run) (frame : List ℕ) (place b : ℕ) where
   own-slot low = go (eqb (length with) (crcStart with + 17)) refl
     where
       go : (t : Bool) → eqb (length with) (crcStart with + 17) ≡ t → t && not (slotRight own with) ≡ false
-      go true e = let is = slot-bit (eqb-true _ _ e) in ap not (le-leb (getD with (crcStart with + 16) 0) 1 (omega (arith, is)))
+      go true e = let is = slot-bit frame b (eqb-true _ _ e) in ap not (le-leb (getD with (crcStart with + 16) 0) 1 (omega (arith, is)))
       go false e = refl
 
   pub verdict-same : (verdict acknowledged run frame place b ≡ verdict own run frame place b)
