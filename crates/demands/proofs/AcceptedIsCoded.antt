@@ -25,11 +25,11 @@ use Rattle.field.specs.Field.{fieldOf}
 use Rattle.field.proofs.FieldBits.{field-length}
 use Rattle.decoding.specs.Decode.{decodeAnswer, payloadOf}
 use Rattle.decoding.proofs.RoundTrip.{field-of-payload}
-use Rattle.frame.specs.declared.Identifier.{Identifier}
-use Rattle.frame.specs.Identifier.{Allowed, roomFor, identifierOf}
-use Rattle.frame.specs.Answers.{payloadLine}
+use Rattle.wire.specs.declared.Identifier.{Identifier}
+use Rattle.wire.specs.Identifier.{Allowed, roomFor, identifierOf}
+use Rattle.wire.specs.Answers.{payloadLine}
 use Rattle.line.specs.Ack.{withAck}
-use Rattle.scanning.specs.declared.Reading.{Reading}
+use Rattle.reading.specs.declared.Reading.{Reading}
 use Rattle.line.specs.Read.{acknowledged, own, readAnswer, payloadIn, lineNumbers}
 use Rattle.line.specs.declared.Line.{Line}
 use Rattle.line.specs.declared.Line.the-variants.{Frame}

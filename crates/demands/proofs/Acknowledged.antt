@@ -23,16 +23,16 @@ use Rattle.refusals.specs.declared.Refusal.the-variants.{NotAcknowledged}
 use Rattle.refusals.specs.Table.{numberOf, placeOf}
 use Rattle.refusals.proofs.Table.{refusal-only}
 use Rattle.field.specs.Field.{fieldOf}
-use Rattle.frame.specs.declared.Identifier.{Identifier}
-use Rattle.frame.specs.Identifier.{Allowed}
-use Rattle.frame.specs.Answers.{payloadLine}
-use Rattle.scanning.specs.Scan.{crcStart, right, verdict, runBehind, frameBehind}
+use Rattle.wire.specs.declared.Identifier.{Identifier}
+use Rattle.wire.specs.Identifier.{Allowed}
+use Rattle.wire.specs.Answers.{payloadLine}
+use Rattle.reading.specs.Scan.{crcStart, right, verdict, runBehind, frameBehind}
+use Rattle.reading.proofs.Stands.{twenty}
 use Rattle.line.specs.Ack.{withAck}
 use Rattle.line.specs.Read.{acknowledged, own, readAnswer, payloadIn}
 use Rattle.line.specs.declared.Line.{Line}
 use Rattle.line.specs.declared.Line.the-variants.{Frame, Refused}
 use Rattle.line.proofs.AckSlot.{ack-found}
-use Rattle.line.proofs.Stands.{twenty}
 use Rattle.line.proofs.ReadAnswers.{read-stopped}
 use Rattle.line.proofs.ReadRefusals.{bits-refused}
 use Rattle.line.proofs.RoundTrip.{Coded, own-ack, slot-holds, read-made, accepted-is-coded, coded-is-accepted, coded-apart}

@@ -19,11 +19,11 @@ use Rattle.field.specs.Field.{fieldOf}
 use Rattle.field.proofs.Sizes.{fieldBytes-few}
 use Rattle.field.proofs.FieldBits.{field-length, field-below}
 use Rattle.decoding.proofs.RoundTrip.{payload-of-field, decode-encode}
-use Rattle.frame.specs.declared.Identifier.{Identifier}
-use Rattle.frame.specs.declared.Identifier.the-variants.{Base, Long}
-use Rattle.frame.specs.Identifier.{Allowed, roomFor, numberForC}
-use Rattle.frame.specs.Answers.{payloadLine}
-use Rattle.frame.proofs.Demand3.{room-enough}
+use Rattle.wire.specs.declared.Identifier.{Identifier}
+use Rattle.wire.specs.declared.Identifier.the-variants.{Base, Long}
+use Rattle.wire.specs.Identifier.{Allowed, roomFor, numberForC}
+use Rattle.wire.specs.Answers.{payloadLine}
+use Rattle.wire.proofs.Demand3.{room-enough}
 use Rattle.line.specs.Ack.{withAck}
 use Rattle.line.specs.Read.{acknowledged, own}
 use Rattle.line.proofs.RoundTrip.{read-made, accepted-is-coded}

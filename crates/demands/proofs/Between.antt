@@ -21,11 +21,11 @@ use Rattle.field.proofs.Coded.{coded-long, coded-short, coded-refused}
 use Rattle.decoding.specs.Decode.{decodeAnswer}
 use Rattle.decoding.specs.Number.{numberAnswer}
 use Rattle.decoding.proofs.NumberAnswers as numbers
-use Rattle.scanning.specs.Scan.{scanned}
+use Rattle.reading.specs.Scan.{scanned}
+use Rattle.reading.specs.declared.Reading.{Reading}
 use Rattle.scanning.specs.Held.{heldIn, heldNumbers}
 use Rattle.scanning.specs.declared.Held.{Held}
 use Rattle.scanning.specs.declared.Held.the-variants as held
-use Rattle.scanning.specs.declared.Reading.{Reading}
 use Rattle.line.specs.Read.{readAnswer, lineNumbers}
 use Rattle.line.proofs.FromScan.{from-refused}
 

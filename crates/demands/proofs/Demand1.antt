@@ -21,8 +21,8 @@ use Rattle.field.specs.Field.{fieldOf}
 use Rattle.field.specs.Encode.{encodeAnswer}
 use Rattle.field.specs.Coded.{fieldFrom}
 use Rattle.decoding.specs.Decode.{decodeAnswer, payloadOf}
-use Rattle.frame.specs.Identifier.{identifierOf}
-use Rattle.frame.specs.Answers.{payloadLine, makeAnswer}
+use Rattle.wire.specs.Identifier.{identifierOf}
+use Rattle.wire.specs.Answers.{payloadLine, makeAnswer}
 use Rattle.line.specs.Read.{acknowledged, own, readAnswer, payloadIn, lineNumbers}
 use Rattle.report.specs.Report.{lineAt, reportedNumbers}
 use Rattle.prushgoli.specs.Packing.{pack, told}

@@ -48,14 +48,14 @@ use Rattle.field.proofs.EncodeAnswers.{encode-accepts}
 use Rattle.decoding.specs.Decode.{decodeAnswer, payloadOf}
 use Rattle.decoding.proofs.RoundTrip.{payload-of-field, decode-encode, field-of-payload}
 use Rattle.crc.specs.Crc.{crc}
-use Rattle.frame.specs.declared.Identifier.{Identifier}
-use Rattle.frame.specs.Identifier.{Allowed, roomFor}
-use Rattle.frame.specs.Header.{header}
-use Rattle.frame.specs.Answers.{payloadLine, makeAnswer}
-use Rattle.frame.proofs.PayloadLine.{frame-is}
-use Rattle.frame.proofs.FrameAnswers.{make-accepts}
-use Rattle.scanning.specs.Scan.{slotMost}
-use Rattle.scanning.specs.declared.Reading.{Reading}
+use Rattle.wire.specs.declared.Identifier.{Identifier}
+use Rattle.wire.specs.Identifier.{Allowed, roomFor}
+use Rattle.wire.specs.Header.{header}
+use Rattle.wire.specs.Answers.{payloadLine, makeAnswer}
+use Rattle.wire.proofs.PayloadLine.{frame-is}
+use Rattle.wire.proofs.FrameAnswers.{make-accepts}
+use Rattle.reading.specs.Scan.{slotMost}
+use Rattle.reading.specs.declared.Reading.{Reading}
 use Rattle.line.specs.Ack.{withAck}
 use Rattle.line.specs.Read.{acknowledged, own, readAnswer, payloadIn, lineNumbers}
 use Rattle.line.specs.declared.Line.{Line}

@@ -24,19 +24,19 @@ use Rattle.refusals.specs.declared.Answer.the-variants.{Length}
 use Rattle.field.specs.Sizes.{fieldBytes}
 use Rattle.field.specs.Field.{fieldOf}
 use Rattle.field.proofs.FieldBits.{field-length}
-use Rattle.frame.specs.declared.Identifier.{Identifier}
-use Rattle.frame.specs.Identifier.{Allowed, roomFor}
-use Rattle.frame.specs.declared.Identifier.the-variants.{Base, Long}
-use Rattle.frame.specs.Header.{header}
-use Rattle.frame.specs.Line.{lineOf, frameLine}
-use Rattle.frame.specs.StuffBits.{afterHeader, afterData, afterCrc, headerStuffBits}
-use Rattle.frame.specs.Answers.{payloadLine, lengthAnswer, boundsAnswer}
-use Rattle.frame.specs.declared.Bounds.the-variants.{Between}
-use Rattle.frame.proofs.Identifiers.{base-room, long-room}
-use Rattle.frame.proofs.Demand3 as frame
-use Rattle.frame.proofs.FrameAnswers.{length-accepts}
-use Rattle.frame.proofs.BoundsAnswers.{base-bounds, long-bounds}
-use Rattle.frame.proofs.Reported as reported
+use Rattle.wire.specs.declared.Identifier.{Identifier}
+use Rattle.wire.specs.Identifier.{Allowed, roomFor}
+use Rattle.wire.specs.declared.Identifier.the-variants.{Base, Long}
+use Rattle.wire.specs.Header.{header}
+use Rattle.wire.specs.Line.{lineOf, frameLine}
+use Rattle.wire.specs.StuffBits.{afterHeader, afterData, afterCrc, headerStuffBits}
+use Rattle.wire.specs.Answers.{payloadLine, lengthAnswer, boundsAnswer}
+use Rattle.wire.specs.declared.Bounds.the-variants.{Between}
+use Rattle.wire.proofs.Identifiers.{base-room, long-room}
+use Rattle.wire.proofs.Demand3 as frame
+use Rattle.wire.proofs.FrameAnswers.{length-accepts}
+use Rattle.wire.proofs.BoundsAnswers.{base-bounds, long-bounds}
+use Rattle.wire.proofs.Reported as reported
 
 module _ (identifier : Identifier) (payload : List ℕ) (bytes : Below 256 payload) (short : length payload ≤ 7) where
   -- how many bytes the field has, and the bits of header and data field

@@ -16,8 +16,8 @@ use Rattle.refusals.specs.After.{after}
 use Rattle.field.specs.Field.{fieldOf}
 use Rattle.field.specs.Encode.{encodeAnswer}
 use Rattle.decoding.specs.Decode.{decodeAnswer, payloadOf}
-use Rattle.frame.specs.Identifier.{identifierOf}
-use Rattle.frame.specs.Answers.{payloadLine, makeAnswer, lengthAnswer, boundsAnswer, boundsNumbers}
+use Rattle.wire.specs.Identifier.{identifierOf}
+use Rattle.wire.specs.Answers.{payloadLine, makeAnswer, lengthAnswer, boundsAnswer, boundsNumbers}
 use Rattle.line.specs.Read.{acknowledged, own, readAnswer, payloadIn, lineNumbers}
 use Rattle.prushgoli.specs.Packing.{pack}
 use Rattle.prushgoli.proofs.prushgoli_encode.Symbol as c-encode

@@ -31,15 +31,15 @@ use Rattle.decoding.specs.Parts.{sizeOf, breakPart, paddingPart, symbolsOf}
 use Rattle.decoding.specs.Decode.{decodeAnswer, payloadOf}
 use Rattle.decoding.proofs.DecodeAnswers as decoding
 use Rattle.decoding.proofs.DecodeGiven as decoded
-use Rattle.frame.specs.declared.Identifier.{Identifier}
-use Rattle.frame.specs.Identifier.{numberIn, greatest, Allowed, roomFor}
-use Rattle.frame.specs.Header.{header}
-use Rattle.frame.specs.StuffBits.{headerStuffBits}
-use Rattle.frame.specs.Answers.{payloadLine, makeAnswer, lengthAnswer, boundsAnswer}
-use Rattle.frame.specs.declared.Bounds.{Bounds}
-use Rattle.frame.specs.declared.Bounds.the-variants as bounds
-use Rattle.frame.proofs.FrameAnswers as frame
-use Rattle.frame.proofs.BoundsAnswers as bounding
+use Rattle.wire.specs.declared.Identifier.{Identifier}
+use Rattle.wire.specs.Identifier.{numberIn, greatest, Allowed, roomFor}
+use Rattle.wire.specs.Header.{header}
+use Rattle.wire.specs.StuffBits.{headerStuffBits}
+use Rattle.wire.specs.Answers.{payloadLine, makeAnswer, lengthAnswer, boundsAnswer}
+use Rattle.wire.specs.declared.Bounds.{Bounds}
+use Rattle.wire.specs.declared.Bounds.the-variants as bounds
+use Rattle.wire.proofs.FrameAnswers as frame
+use Rattle.wire.proofs.BoundsAnswers as bounding
 
 -- ---- encoding a payload into so much room: 1, 2
 

@@ -18,12 +18,12 @@ use Rattle.field.specs.Field.{fieldBits, fieldOf}
 use Rattle.decoding.specs.Parts.{breakPart, wordsPart, paddingPart}
 use Rattle.decoding.specs.Decode.{decodeAnswer}
 use Rattle.crc.specs.Crc.{xor, divide, remainder, crc}
-use Rattle.frame.specs.Header.{header}
-use Rattle.frame.specs.Line.{crcBits, stuffedRow, lineOf, frameLine}
-use Rattle.frame.specs.StuffBits.{stuffBitsIn, headerStuffBits}
-use Rattle.frame.specs.Answers.{lengthAnswer, boundsAnswer}
-use Rattle.scanning.specs.Form.{headerForm, form}
-use Rattle.scanning.specs.Scan.{longIn, headerWidth, identifierIn, dlcIn, crcStart, complete, stuffDue, mustBe, shown, verdict, runWith, frameWith, scan, scanned}
+use Rattle.wire.specs.Header.{header}
+use Rattle.wire.specs.Line.{crcBits, stuffedRow, lineOf, frameLine}
+use Rattle.wire.specs.StuffBits.{stuffBitsIn, headerStuffBits}
+use Rattle.wire.specs.Answers.{lengthAnswer, boundsAnswer}
+use Rattle.reading.specs.Form.{headerForm, form}
+use Rattle.reading.specs.Scan.{longIn, headerWidth, identifierIn, dlcIn, crcStart, complete, stuffDue, mustBe, shown, verdict, runWith, frameWith, scan, scanned}
 use Rattle.line.specs.Read.{fieldIn, readAnswer}
 use Rattle.demands.specs.Cases.{starred, ofBounds, ofStuffedCrc, ofAckSlot, ofForms, bySize, AllRight}
 

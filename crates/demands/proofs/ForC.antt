@@ -22,16 +22,16 @@ use Rattle.refusals.proofs.Table.{number-some}
 use Rattle.refusals.proofs.Answers.{answer-only}
 use Rattle.field.specs.Encode.{encodeAnswer}
 use Rattle.decoding.specs.Decode.{decodeAnswer}
-use Rattle.frame.specs.declared.Identifier.{Identifier}
-use Rattle.frame.specs.Identifier.{Allowed, numberForC, identifierOf}
-use Rattle.frame.specs.Answers.{makeAnswer, lengthAnswer, boundsAnswer, boundsNumbers}
-use Rattle.frame.specs.declared.Bounds.{Bounds}
-use Rattle.frame.proofs.Identifiers.{for-c-back, allowed-small}
-use Rattle.frame.proofs.BoundsAnswers.{bounds-only}
+use Rattle.wire.specs.declared.Identifier.{Identifier}
+use Rattle.wire.specs.Identifier.{Allowed, numberForC, identifierOf}
+use Rattle.wire.specs.Answers.{makeAnswer, lengthAnswer, boundsAnswer, boundsNumbers}
+use Rattle.wire.specs.declared.Bounds.{Bounds}
+use Rattle.wire.proofs.Identifiers.{for-c-back, allowed-small}
+use Rattle.wire.proofs.BoundsAnswers.{bounds-only}
 use Rattle.line.specs.Read.{acknowledged, own, readAnswer, lineNumbers}
 use Rattle.line.specs.declared.Line.{Line}
 use Rattle.line.specs.declared.Line.the-variants as line
-use Rattle.scanning.specs.declared.Reading.{Reading}
+use Rattle.reading.specs.declared.Reading.{Reading}
 use Rattle.line.proofs.ReadAnswers.{Bit31Free, line-only}
 use Rattle.line.proofs.Small.{read-free}
 use Rattle.prushgoli.specs.Packing.{told}

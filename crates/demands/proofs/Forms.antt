@@ -15,14 +15,14 @@ use native.Mathlib.Omega.{arith}
 use lib.ListN.{length, take, drop}
 use Rattle.bits.specs.Below.{Below}
 use Rattle.bits.specs.Rows.{bits}
-use Rattle.frame.specs.declared.Identifier.{Identifier}
-use Rattle.frame.specs.declared.Identifier.the-variants.{Base, Long}
-use Rattle.frame.specs.Identifier.{numberIn, greatest, Allowed, numberForC, identifierOf}
-use Rattle.frame.specs.Header.{header}
-use Rattle.frame.specs.Answers.{payloadLine}
-use Rattle.frame.proofs.Identifiers as identifiers
-use Rattle.frame.proofs.HeaderBits as bits-of
-use Rattle.scanning.specs.declared.Reading.{Reading}
+use Rattle.wire.specs.declared.Identifier.{Identifier}
+use Rattle.wire.specs.declared.Identifier.the-variants.{Base, Long}
+use Rattle.wire.specs.Identifier.{numberIn, greatest, Allowed, numberForC, identifierOf}
+use Rattle.wire.specs.Header.{header}
+use Rattle.wire.specs.Answers.{payloadLine}
+use Rattle.wire.proofs.Identifiers as identifiers
+use Rattle.wire.proofs.HeaderBits as bits-of
+use Rattle.reading.specs.declared.Reading.{Reading}
 use Rattle.line.specs.Ack.{withAck}
 use Rattle.line.specs.Read.{readAnswer, payloadIn}
 use Rattle.line.specs.declared.Line.the-variants.{Frame}

@@ -29,20 +29,20 @@ use Rattle.refusals.specs.declared.Refusal.the-variants.{LineLength, FixedBit, 
 use Rattle.refusals.proofs.Table.{refusal-only}
 use Rattle.refusals.proofs.Among.{among-first, among-last, among-split}
 use Rattle.decoding.specs.Decode.{decodeAnswer}
-use Rattle.frame.specs.declared.Identifier.{Identifier}
-use Rattle.frame.specs.Identifier.{Allowed}
-use Rattle.frame.specs.Line.{frameLine}
-use Rattle.scanning.specs.Scan.{slotMost, right, wrong, verdict, complete, runBehind, frameBehind, Verdict}
-use Rattle.scanning.specs.declared.Reading.{Reading}
+use Rattle.wire.specs.declared.Identifier.{Identifier}
+use Rattle.wire.specs.Identifier.{Allowed}
+use Rattle.wire.specs.Line.{frameLine}
+use Rattle.reading.specs.Scan.{slotMost, right, wrong, verdict, complete, runBehind, frameBehind, Verdict}
+use Rattle.reading.specs.declared.Reading.{Reading}
+use Rattle.reading.proofs.BeforeIde.{before-ide}
+use Rattle.reading.proofs.FixedBits.{fixed-elsewhere}
+use Rattle.reading.proofs.FirstProblem.{stopped-at, stopped-stays}
+use Rattle.reading.proofs.Stands.{bitNumbers}
+use Rattle.reading.proofs.OtherLength.{cut-before}
+use Rattle.reading.proofs.ProblemMet.{problem-met, right-before, problem-stops}
 use Rattle.line.specs.Ack.{withAck}
 use Rattle.line.specs.Read.{acknowledged, own, withIdentifier, readAnswer}
 use Rattle.line.specs.declared.Line.the-variants.{Frame, Refused}
-use Rattle.line.proofs.BeforeIde.{before-ide}
-use Rattle.line.proofs.FixedBits.{fixed-elsewhere}
-use Rattle.line.proofs.FirstProblem.{stopped-at, stopped-stays}
-use Rattle.line.proofs.Stands.{bitNumbers}
-use Rattle.line.proofs.OtherLength.{cut-before}
-use Rattle.line.proofs.ProblemMet.{problem-met, right-before, problem-stops}
 use Rattle.line.proofs.ReadAnswers.{read-stopped}
 use Rattle.line.proofs.ReadRefusals.{fieldNumbers, read-numbers, bits-refused, field-refused, refused-field, cut-line, longer-line}
 use Rattle.line.proofs.RoundTrip.{read-frame}

@@ -22,11 +22,11 @@ use Rattle.field.specs.Field.{fieldOf}
 use Rattle.field.proofs.FieldBits.{field-length}
 use Rattle.decoding.specs.Decode.{decodeAnswer, payloadOf}
 use Rattle.decoding.proofs.RoundTrip.{payload-of-field, decode-encode}
-use Rattle.frame.specs.Identifier.{Allowed, roomFor, identifierOf}
-use Rattle.frame.specs.Answers.{payloadLine}
-use Rattle.frame.proofs.Identifiers.{from-c-back}
-use Rattle.scanning.specs.Scan.{slotMost}
-use Rattle.scanning.specs.declared.Reading.{Reading}
+use Rattle.wire.specs.Identifier.{Allowed, roomFor, identifierOf}
+use Rattle.wire.specs.Answers.{payloadLine}
+use Rattle.wire.proofs.Identifiers.{from-c-back}
+use Rattle.reading.specs.Scan.{slotMost}
+use Rattle.reading.specs.declared.Reading.{Reading}
 use Rattle.line.specs.Ack.{withAck}
 use Rattle.line.specs.Read.{acknowledged, own, readAnswer, payloadIn, lineNumbers}
 use Rattle.line.specs.declared.Line.{Line}

@@ -14,9 +14,9 @@ use Rattle.field.specs.Sizes.{fieldBytes}
 use Rattle.field.specs.Field.{fieldOf}
 use Rattle.decoding.specs.Decode.{payloadOf}
 use Rattle.decoding.proofs.RoundTrip.{payload-of-field}
-use Rattle.frame.specs.Identifier.{Allowed, identifierOf}
-use Rattle.frame.specs.Answers.{payloadLine}
-use Rattle.frame.proofs.FrameAnswers.{length-accepts}
+use Rattle.wire.specs.Identifier.{Allowed, identifierOf}
+use Rattle.wire.specs.Answers.{payloadLine}
+use Rattle.wire.proofs.FrameAnswers.{length-accepts}
 use Rattle.prushgoli.specs.Packing.{told}
 use Rattle.prushgoli.proofs.prushgoli_encode.Reads as encode
 use Rattle.prushgoli.proofs.prushgoli_encode.Kinds as encode-kinds

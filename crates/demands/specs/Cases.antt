@@ -11,11 +11,11 @@ use Rattle.field.specs.Sizes.{fieldBytes, breakBit, paddingBits}
 use Rattle.field.specs.Field.{fieldOf}
 use Rattle.decoding.specs.Decode.{decodeAnswer}
 use Rattle.crc.specs.Crc.{crc}
-use Rattle.frame.specs.declared.Identifier.{Identifier}
-use Rattle.frame.specs.declared.Identifier.the-variants.{Base, Long}
-use Rattle.frame.specs.Header.{header}
-use Rattle.frame.specs.StuffBits.{afterHeader, afterCrc}
-use Rattle.frame.specs.Answers.{payloadLine, lengthAnswer, boundsAnswer, boundsNumbers}
+use Rattle.wire.specs.declared.Identifier.{Identifier}
+use Rattle.wire.specs.declared.Identifier.the-variants.{Base, Long}
+use Rattle.wire.specs.Header.{header}
+use Rattle.wire.specs.StuffBits.{afterHeader, afterCrc}
+use Rattle.wire.specs.Answers.{payloadLine, lengthAnswer, boundsAnswer, boundsNumbers}
 use Rattle.line.specs.Read.{acknowledged, own, readAnswer, lineNumbers}
 
 -- a payload codes as a field; a field decodes, with room for seven bytes, to a refusal; the frame of an identifier and a payload has a

@@ -1,13 +1,4 @@
-pub mod Identifiers
-pub mod HeaderBits
 pub mod FourBits
 pub mod Quiet
 pub mod Written
-pub mod LineParts
-pub mod HeaderStuff
-pub mod Demand3
-pub mod PayloadLine
-pub mod FrameAnswers
-pub mod BoundsAnswers
-pub mod Reported
-pub mod Small
+pub mod FrameParts

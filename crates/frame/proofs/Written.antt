@@ -23,11 +23,11 @@ use Rattle.bits.specs.Stuffing.{nothingSent, stuffed, stuffCount, runAfterRow}
 use Rattle.bits.proofs.Filling.{sets-append}
 use Rattle.bits.proofs.Rows.{bits-length, bits-next, bits-low}
 use Rattle.bits.proofs.Stuffing.{runAfterRow-append, stuffed-append, stuffed-length}
+use Rattle.wire.specs.Line.{ending}
 use Rattle.frame.specs.declared.header.Header.{Header}
 use Rattle.frame.specs.Parts.{bitsOf, Starts}
 use Rattle.frame.specs.Fours.{runOf, sentOf, quietCheck}
 use Rattle.frame.specs.declared.writing.Spot.{Spot}
-use Rattle.frame.specs.Line.{ending}
 use Rattle.frame.specs.Writing.{Written, tailRow}
 use Rattle.frame.proofs.Quiet.{quiet-sent, header-run-is, header-sent, check-sent}
 use Rattle.frame.proofs.FourBits.{run-fours, sent-fours, sent-row, sent-run, sent-below}

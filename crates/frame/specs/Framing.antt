@@ -4,9 +4,9 @@ use mathlib.Core.Path.{_≡_}
 use mathlib.Core.List.{List}
 use lib.ListN.{length}
 use Rattle.refusals.specs.declared.Answer.the-variants.{Refused}
-use Rattle.frame.specs.declared.Identifier.{Identifier}
-use Rattle.frame.specs.Identifier.{Allowed, roomFor}
-use Rattle.frame.specs.Answers.{payloadLine, lengthAnswer, makeAnswer}
+use Rattle.wire.specs.declared.Identifier.{Identifier}
+use Rattle.wire.specs.Identifier.{Allowed, roomFor}
+use Rattle.wire.specs.Answers.{payloadLine, lengthAnswer, makeAnswer}
 use Rattle.frame.specs.Parts.{Fit, lineIn}
 use Rattle.frame.specs.declared.parts.Parts.{Parts}
 use Rattle.frame.specs.declared.framing.Framed.{Framed}

@@ -1,8 +1,3 @@
-pub mod Identifier
-pub mod Header
-pub mod Line
-pub mod StuffBits
-pub mod Answers
 pub mod Parts
 pub mod Fours
 pub mod Writing

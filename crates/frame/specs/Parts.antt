@@ -4,9 +4,9 @@ use Prim.Native.Nat.{ℕ, _+_, _*_, _%_, _^_, _≤_, _<_}
 use mathlib.Core.List.{List}
 use Rattle.bits.specs.Rows.{bits}
 use Rattle.bits.specs.Stuffing.{nothingSent, stuffCount, runAfterRow}
-use Rattle.frame.specs.declared.Identifier.{Identifier}
-use Rattle.frame.specs.Header.{header}
-use Rattle.frame.specs.Line.{lineOf}
+use Rattle.wire.specs.declared.Identifier.{Identifier}
+use Rattle.wire.specs.Header.{header}
+use Rattle.wire.specs.Line.{lineOf}
 use Rattle.frame.specs.declared.header.Header.{Header}
 use Rattle.frame.specs.declared.parts.Parts.{Parts}
 

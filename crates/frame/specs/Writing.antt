@@ -7,8 +7,8 @@ use lib.Seq.{sets}
 use Rattle.bits.specs.declared.Run.{Run}
 use Rattle.bits.specs.Rows.{bits}
 use Rattle.bits.specs.Stuffing.{stuffed, runAfterRow}
+use Rattle.wire.specs.Line.{ending}
 use Rattle.frame.specs.Fours.{runOf}
-use Rattle.frame.specs.Line.{ending}
 use Rattle.frame.specs.declared.writing.Spot.{Spot}
 
 -- a row stands at a place of the line as it is sent behind a run, all else is as it was, and the next spot is behind it

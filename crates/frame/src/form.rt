@@ -1,8 +1,8 @@
 // What the form of an identifier decides.
 ghost use mathlib.Core.Path.{_≡_};
 ghost use lib.Dec.{ltb};
-ghost use Rattle.frame.specs.Identifier.{numberIn, greatest, roomFor};
-use crate::Identifier;
+ghost use Rattle.wire.specs.Identifier.{numberIn, greatest, roomFor};
+use wire::Identifier;
 
 // Whether its number is above the greatest of its form.
 pub(crate) fn is_refused(identifier: Identifier) -> bool

@@ -1,12 +1,12 @@
 // The frame of an identifier and a payload in its parts.
 ghost use Rattle.frame.specs.Framing.{Gives};
-use crate::Identifier;
 use crate::form;
 use crate::header;
 use crate::parts::Parts;
 use field::encoding;
 use field::encoding::Coded;
 use refusals::Refusal;
+use wire::Identifier;
 
 // The parts, or why there are none.
 pub(crate) enum Framed {

@@ -1,9 +1,9 @@
 // The header of a data frame, of either form.
 ghost use mathlib.Core.Path.{_≡_};
 ghost use Prim.Native.Nat.{_+_, _*_, _/_, _%_, _^_, _<_};
-ghost use Rattle.frame.specs.Identifier.{Allowed};
+ghost use Rattle.wire.specs.Identifier.{Allowed};
 ghost use Rattle.frame.specs.Parts.{IsHeader};
-use crate::Identifier;
+use wire::Identifier;
 
 // Its bits are the lowest of a number: three, and four for each of `fours`, so 19 or 39.
 pub(crate) struct Header {

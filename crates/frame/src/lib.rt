@@ -5,7 +5,7 @@ ghost use mathlib.Core.Path.{_≡_};
 ghost use lib.ListN.{length};
 ghost use Rattle.refusals.specs.Table.{answerNumbers};
 ghost use Rattle.refusals.specs.After.{after};
-ghost use Rattle.frame.specs.Answers.{payloadLine, makeAnswer, lengthAnswer, boundsAnswer};
+ghost use Rattle.wire.specs.Answers.{payloadLine, makeAnswer, lengthAnswer, boundsAnswer};
 
 mod byte_list;
 mod form;
@@ -22,20 +22,8 @@ use field::table;
 use framing::Framed;
 use refusals::Answer;
 use refusals::Refusal;
-
-// An identifier: the form of the frames that it goes into, and its number. [4.1]
-pub enum Identifier {
-    // Up to 2047, in 11 bits.
-    Base(u32),
-    // Up to 536,870,911, in 29 bits.
-    Long(u32),
-}
-
-// The two bounds of a frame's length, the lower first, or a refusal. [7.4]
-pub enum Bounds {
-    Between(usize, usize),
-    Refused(Refusal),
-}
+use wire::Bounds;
+use wire::Identifier;
 
 // Makes the frame of an identifier and a payload: the length of its line, which stands at the start of `line`, a byte 0 or 1 for each
 // bit. Refused with 8, 1 or 2; room for 116 bits is asked for, or for 141 in the long form, whatever the payload.

@@ -13,7 +13,7 @@ use lib.ListN.{length, getD, set, replicate, length-append, length-set}
 use lib.Seq.{set-at, set-getD, set-set, getD-append-add}
 use Rattle.bits.specs.Below.{Below}
 use Rattle.bits.specs.Stuffing.{nothingSent, stuffed}
-use Rattle.frame.specs.Line.{stuffedRow, ending, lineOf}
+use Rattle.wire.specs.Line.{stuffedRow, ending, lineOf}
 use Rattle.line.specs.Ack.{withAck}
 
 with-ack : (ack other : ℕ) (l : List ℕ) → withAck ack (l ++ ending other) ≡ l ++ ending ack

@@ -17,12 +17,12 @@ use Rattle.field.specs.Field.{fieldBits, fieldOf}
 use Rattle.decoding.specs.Parts.{breakPart, wordsPart, paddingPart}
 use Rattle.decoding.specs.Decode.{decodeAnswer}
 use Rattle.crc.specs.Crc.{xor, divide, remainder, crc}
-use Rattle.frame.specs.declared.Identifier.the-variants.{Long}
-use Rattle.frame.specs.Header.{header}
-use Rattle.frame.specs.Line.{crcBits, stuffedRow, lineOf, frameLine}
-use Rattle.frame.specs.Answers.{payloadLine}
-use Rattle.scanning.specs.Form.{headerForm, form}
-use Rattle.scanning.specs.Scan.{longIn, headerWidth, identifierIn, dlcIn, crcStart, complete, stuffDue, mustBe, shown, verdict, runWith, frameWith, scan, scanned}
+use Rattle.wire.specs.declared.Identifier.the-variants.{Long}
+use Rattle.wire.specs.Header.{header}
+use Rattle.wire.specs.Line.{crcBits, stuffedRow, lineOf, frameLine}
+use Rattle.wire.specs.Answers.{payloadLine}
+use Rattle.reading.specs.Form.{headerForm, form}
+use Rattle.reading.specs.Scan.{longIn, headerWidth, identifierIn, dlcIn, crcStart, complete, stuffDue, mustBe, shown, verdict, runWith, frameWith, scan, scanned}
 use Rattle.line.specs.Read.{acknowledged, own, fieldIn, readAnswer, lineNumbers}
 
 -- the frame of identifier 0 and the empty payload: 19 + 15 bits 0, six times five of them with a stuff bit; the last is at place 39

@@ -20,20 +20,20 @@ use Rattle.bits.proofs.Rows.{bits-length, bits-below, number-low}
 use Rattle.bits.proofs.Packing.{unpacked-length, unpacked-below, packed-unpacked}
 use Rattle.crc.specs.Crc.{crc}
 use Rattle.crc.proofs.Division.{crc-below}
-use Rattle.frame.specs.declared.Identifier.{Identifier}
-use Rattle.frame.specs.Identifier.{Allowed}
-use Rattle.frame.specs.Header.{header}
-use Rattle.frame.specs.Line.{crcBits, ending}
-use Rattle.frame.proofs.HeaderBits.{headerLength, header-length, header-many, header-below, dlc-in-place}
-use Rattle.frame.proofs.LineParts.{crc-length}
-use Rattle.scanning.specs.Form.{either, headerForm, form}
-use Rattle.scanning.specs.Scan.{longIn, headerWidth, dataStart, identifierIn, dlcIn, crcStart, slotMost}
-use Rattle.scanning.specs.declared.Reading.{Reading}
-use Rattle.scanning.proofs.Partial.{dataForm, crcForm, form-is, header-form-length, long-stays, dlc-there, dlc-stays}
+use Rattle.wire.specs.declared.Identifier.{Identifier}
+use Rattle.wire.specs.Identifier.{Allowed}
+use Rattle.wire.specs.Header.{header}
+use Rattle.wire.specs.Line.{crcBits, ending}
+use Rattle.wire.proofs.HeaderBits.{headerLength, header-length, header-many, header-below, dlc-in-place}
+use Rattle.wire.proofs.LineParts.{crc-length}
+use Rattle.reading.specs.Form.{either, headerForm, form}
+use Rattle.reading.specs.Scan.{longIn, headerWidth, dataStart, identifierIn, dlcIn, crcStart, slotMost}
+use Rattle.reading.specs.declared.Reading.{Reading}
+use Rattle.reading.proofs.Partial.{dataForm, crcForm, form-is, header-form-length, long-stays, dlc-there, dlc-stays}
+use Rattle.reading.proofs.Fits.{Fits, fits-append, fits-free, fits-same}
+use Rattle.reading.proofs.Right.{Right}
 use Rattle.scanning.proofs.Rows.{slot-bit}
 use Rattle.line.specs.Read.{fieldIn}
-use Rattle.line.proofs.Fits.{Fits, fits-append, fits-free, fits-same}
-use Rattle.line.proofs.Right.{Right}
 use Rattle.line.proofs.HeaderBits.{longOf, header-long, width-is, header-start, header-same, header-fits, header-back}
 
 module _ (identifier : Identifier) (field : List ℕ) where

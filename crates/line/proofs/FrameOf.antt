@@ -19,16 +19,16 @@ use Rattle.bits.proofs.Packing.{packed-length, packed-below, unpacked-packed}
 use Rattle.field.specs.Coded.{fieldFrom}
 use Rattle.field.proofs.Coded.{from-number}
 use Rattle.crc.specs.Crc.{crc}
-use Rattle.frame.specs.Header.{header}
-use Rattle.frame.specs.Line.{crcBits, ending}
-use Rattle.scanning.specs.Form.{either, headerForm, form}
-use Rattle.scanning.specs.Scan.{longIn, dataStart, identifierIn, dlcIn, crcStart, slotMost}
-use Rattle.scanning.specs.declared.Reading.{Reading}
+use Rattle.wire.specs.Header.{header}
+use Rattle.wire.specs.Line.{crcBits, ending}
+use Rattle.reading.specs.Form.{either, headerForm, form}
+use Rattle.reading.specs.Scan.{longIn, dataStart, identifierIn, dlcIn, crcStart, slotMost}
+use Rattle.reading.specs.declared.Reading.{Reading}
+use Rattle.reading.proofs.Partial.{dataForm, crcForm, form-is, header-form-length}
+use Rattle.reading.proofs.Fits.{Fits, fits-fixed}
+use Rattle.reading.proofs.Right.{Right}
 use Rattle.scanning.specs.Held.{dataIn}
-use Rattle.scanning.proofs.Partial.{dataForm, crcForm, form-is, header-form-length}
 use Rattle.line.specs.Read.{fieldIn}
-use Rattle.line.proofs.Fits.{Fits, fits-fixed}
-use Rattle.line.proofs.Right.{Right}
 use Rattle.line.proofs.FrameBits.{headerBits, dataBits, frameBits, front-length, frame-slot}
 use Rattle.line.proofs.Parts.{long, cut, below-from, fits-from, number-part}
 use Rattle.line.proofs.HeaderOf.{identifier-width, header-part}

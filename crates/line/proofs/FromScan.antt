@@ -10,11 +10,11 @@ use Rattle.field.specs.Coded.{fieldFrom}
 use Rattle.decoding.specs.Decode.{decodeAnswer, payloadOf}
 use Rattle.decoding.specs.Number.{numberAnswer}
 use Rattle.decoding.proofs.NumberAnswers.{number-fits}
-use Rattle.frame.specs.declared.Identifier.{Identifier}
-use Rattle.scanning.specs.Scan.{identifierIn, dlcIn, Scanned, whole, stopped, scanned}
+use Rattle.wire.specs.declared.Identifier.{Identifier}
+use Rattle.reading.specs.Scan.{identifierIn, dlcIn, Scanned, whole, stopped, scanned}
+use Rattle.reading.specs.declared.Reading.{Reading}
 use Rattle.scanning.specs.Held.{dataIn, heldIn}
 use Rattle.scanning.specs.declared.Held.the-variants as held
-use Rattle.scanning.specs.declared.Reading.{Reading}
 use Rattle.line.specs.Read.{fieldIn, withIdentifier, readAnswer, payloadIn}
 use Rattle.line.specs.declared.Line.the-variants.{Refused}
 use Rattle.line.proofs.ReadAnswers.{read-stopped, read-whole, payload-whole}

@@ -8,14 +8,14 @@ use native.Mathlib.Omega.{arith}
 use lib.ListN.{length, getD, length-append}
 use Rattle.bits.specs.Rows.{bits, number}
 use Rattle.bits.proofs.Rows.{bits-length, bits-split, number-low}
-use Rattle.frame.specs.declared.Identifier.{Identifier}
-use Rattle.frame.specs.declared.Identifier.the-variants.{Base, Long}
-use Rattle.frame.specs.Identifier.{Allowed}
-use Rattle.frame.specs.Header.{headerOf, longPart, header}
-use Rattle.frame.proofs.HeaderBits.{headerLength}
-use Rattle.scanning.specs.Form.{either, free, headerForm}
-use Rattle.scanning.specs.Scan.{longIn, headerWidth, dataStart, identifierIn}
-use Rattle.line.proofs.Fits.{Fits, fits-append, fits-free, fits-same}
+use Rattle.wire.specs.declared.Identifier.{Identifier}
+use Rattle.wire.specs.declared.Identifier.the-variants.{Base, Long}
+use Rattle.wire.specs.Identifier.{Allowed}
+use Rattle.wire.specs.Header.{headerOf, longPart, header}
+use Rattle.wire.proofs.HeaderBits.{headerLength}
+use Rattle.reading.specs.Form.{either, free, headerForm}
+use Rattle.reading.specs.Scan.{longIn, headerWidth, dataStart, identifierIn}
+use Rattle.reading.proofs.Fits.{Fits, fits-append, fits-free, fits-same}
 
 abbrev pub longOf : Identifier → Bool
 longOf (Base number) = false

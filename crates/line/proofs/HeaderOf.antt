@@ -14,16 +14,16 @@ use Rattle.bits.specs.Below.{Below}
 use Rattle.bits.specs.Rows.{bits, number}
 use Rattle.bits.proofs.Below.{below-append, below-take}
 use Rattle.bits.proofs.Rows.{bits-length, bits-split, bits-number, number-below}
-use Rattle.frame.specs.declared.Identifier.{Identifier}
-use Rattle.frame.specs.declared.Identifier.the-variants.{Base, Long}
-use Rattle.frame.specs.Identifier.{numberIn, greatest, Allowed}
-use Rattle.frame.specs.Header.{headerOf, longPart, header}
-use Rattle.frame.proofs.HeaderBits.{headerLength}
-use Rattle.scanning.specs.Form.{headerForm, form}
-use Rattle.scanning.specs.Scan.{longIn, headerWidth, dataStart, identifierIn, dlcIn}
-use Rattle.scanning.specs.declared.Reading.{Reading}
-use Rattle.scanning.proofs.Partial.{form-is, dlc-there}
-use Rattle.line.proofs.Right.{Right}
+use Rattle.wire.specs.declared.Identifier.{Identifier}
+use Rattle.wire.specs.declared.Identifier.the-variants.{Base, Long}
+use Rattle.wire.specs.Identifier.{numberIn, greatest, Allowed}
+use Rattle.wire.specs.Header.{headerOf, longPart, header}
+use Rattle.wire.proofs.HeaderBits.{headerLength}
+use Rattle.reading.specs.Form.{headerForm, form}
+use Rattle.reading.specs.Scan.{longIn, headerWidth, dataStart, identifierIn, dlcIn}
+use Rattle.reading.specs.declared.Reading.{Reading}
+use Rattle.reading.proofs.Partial.{form-is, dlc-there}
+use Rattle.reading.proofs.Right.{Right}
 use Rattle.line.proofs.Parts.{long, enough, cut, below-from, fixed-part, number-part}
 
 module _ {reading : Reading} {frame : List ℕ} (right : Right reading frame) where

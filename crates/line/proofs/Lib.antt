@@ -1,19 +1,6 @@
 pub mod ReadAnswers
-pub mod Sound
-pub mod Fault
-pub mod Stands
-pub mod FirstProblem
-pub mod OtherLength
-pub mod ProblemMet
-pub mod Thirteen
-pub mod BeforeIde
-pub mod FixedBits
-pub mod OnLine
 pub mod AckSlot
 pub mod LineOf
-pub mod Fits
-pub mod Right
-pub mod SoundRight
 pub mod HeaderBits
 pub mod FrameBits
 pub mod Parts
@@ -23,7 +10,6 @@ pub mod RoundTrip
 pub mod LineTells
 pub mod FromScan
 pub mod ReadRefusals
-pub mod Twenty
 pub mod TwoReadings
 pub mod Examples
 pub mod Small

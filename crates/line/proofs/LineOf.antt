@@ -11,13 +11,13 @@ use lib.Seq.{append-snoc}
 use borrow.Author.Tests.{ltb-true, ltb-false, ne-eqb}
 use Rattle.bits.specs.declared.Run.{Run}
 use Rattle.bits.specs.Stuffing.{nothingSent, stuffAfter, runAfter, stuffed}
-use Rattle.frame.specs.Line.{crcBits, stuffedRow, ending, lineOf}
-use Rattle.frame.proofs.LineParts.{crc-length}
-use Rattle.scanning.specs.Scan.{headerWidth, dataStart, crcStart, stuffDue, runWith}
-use Rattle.scanning.proofs.Partial.{start-least, long-stays, start-stays}
-use Rattle.scanning.proofs.StuffDue.{due-within, due-past}
+use Rattle.wire.specs.Line.{crcBits, stuffedRow, ending, lineOf}
+use Rattle.wire.proofs.LineParts.{crc-length}
+use Rattle.reading.specs.Scan.{headerWidth, dataStart, crcStart, stuffDue, runWith}
+use Rattle.reading.proofs.Partial.{start-least, long-stays, start-stays}
+use Rattle.reading.proofs.StuffDue.{due-within, due-past}
+use Rattle.reading.proofs.OnLine.{dueBits, dueRun, onLine, lineFrom, no-stuff}
 use Rattle.line.specs.Ack.{withAck}
-use Rattle.line.proofs.OnLine.{dueBits, dueRun, onLine, lineFrom, no-stuff}
 use Rattle.line.proofs.AckSlot.{line-ack}
 
 -- how many bits of a frame a stuff bit may follow

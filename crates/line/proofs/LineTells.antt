@@ -8,10 +8,10 @@ use native.Mathlib.Omega.{arith}
 use lib.ListN.{length, getD}
 use Rattle.bits.specs.Below.{Below}
 use Rattle.field.specs.Field.{fieldOf}
-use Rattle.frame.specs.declared.Identifier.{Identifier}
-use Rattle.frame.specs.declared.Identifier.the-variants.{Base, Long}
-use Rattle.frame.specs.Identifier.{Allowed}
-use Rattle.frame.specs.Answers.{payloadLine}
+use Rattle.wire.specs.declared.Identifier.{Identifier}
+use Rattle.wire.specs.declared.Identifier.the-variants.{Base, Long}
+use Rattle.wire.specs.Identifier.{Allowed}
+use Rattle.wire.specs.Answers.{payloadLine}
 use Rattle.line.specs.Read.{own, readAnswer, payloadIn}
 use Rattle.line.specs.Ack.{withAck}
 use Rattle.line.specs.declared.Line.the-variants.{Frame}

@@ -12,12 +12,12 @@ use Rattle.bits.specs.Below.{Below}
 use Rattle.bits.specs.Rows.{bits, number}
 use Rattle.bits.proofs.Below.{below-take, below-drop}
 use Rattle.bits.proofs.Rows.{bits-number}
-use Rattle.scanning.specs.Form.{form}
-use Rattle.scanning.specs.Scan.{longIn, dataStart, dlcIn, crcStart}
-use Rattle.scanning.specs.declared.Reading.{Reading}
-use Rattle.scanning.proofs.Partial.{width-least}
-use Rattle.line.proofs.Fits.{Fits, fits-drop, fits-fixed}
-use Rattle.line.proofs.Right.{Right}
+use Rattle.reading.specs.Form.{form}
+use Rattle.reading.specs.Scan.{longIn, dataStart, dlcIn, crcStart}
+use Rattle.reading.specs.declared.Reading.{Reading}
+use Rattle.reading.proofs.Partial.{width-least}
+use Rattle.reading.proofs.Fits.{Fits, fits-drop, fits-fixed}
+use Rattle.reading.proofs.Right.{Right}
 
 module _ {reading : Reading} {frame : List ℕ} (right : Right reading frame) where
   pub long : length frame ≡ dataStart frame + 8 * dlcIn frame + 25

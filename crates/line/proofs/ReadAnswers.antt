@@ -14,11 +14,11 @@ use Rattle.refusals.specs.After.{after}
 use Rattle.refusals.specs.Table.{Numbers, answerNumbers}
 use Rattle.refusals.proofs.Table.{refusal-only, number-some}
 use Rattle.decoding.specs.Decode.{decodeAnswer, payloadOf}
-use Rattle.frame.specs.declared.Identifier.{Identifier}
-use Rattle.frame.specs.Identifier.{numberIn}
-use Rattle.frame.proofs.Identifiers.{for-c-only}
-use Rattle.scanning.specs.Scan.{identifierIn, Scanned, whole, stopped, scanned}
-use Rattle.scanning.specs.declared.Reading.{Reading}
+use Rattle.wire.specs.declared.Identifier.{Identifier}
+use Rattle.wire.specs.Identifier.{numberIn}
+use Rattle.wire.proofs.Identifiers.{for-c-only}
+use Rattle.reading.specs.Scan.{identifierIn, Scanned, whole, stopped, scanned}
+use Rattle.reading.specs.declared.Reading.{Reading}
 use Rattle.line.specs.Read.{fieldIn, withIdentifier, decoded, readAnswer, carried, payloadIn, lineNumbers}
 use Rattle.line.specs.declared.Line.{Line}
 use Rattle.line.specs.declared.Line.the-variants.{Frame, Refused}

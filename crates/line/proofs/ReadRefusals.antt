@@ -24,18 +24,18 @@ use Rattle.refusals.proofs.Among.{among-apart}
 use Rattle.decoding.specs.Decode.{decodeAnswer}
 use Rattle.decoding.proofs.FieldParts.{LengthAllowed}
 use Rattle.decoding.proofs.DecodeGiven.{decode-numbers}
-use Rattle.frame.specs.declared.Identifier.{Identifier}
-use Rattle.frame.specs.Identifier.{Allowed}
-use Rattle.frame.specs.Line.{frameLine}
-use Rattle.scanning.specs.Scan.{identifierIn, slotMost, Scanned, whole, stopped, scanned}
-use Rattle.scanning.specs.declared.Reading.{Reading}
+use Rattle.wire.specs.declared.Identifier.{Identifier}
+use Rattle.wire.specs.Identifier.{Allowed}
+use Rattle.wire.specs.Line.{frameLine}
+use Rattle.reading.specs.Scan.{identifierIn, slotMost, Scanned, whole, stopped, scanned}
+use Rattle.reading.specs.declared.Reading.{Reading}
+use Rattle.reading.proofs.FirstProblem.{stopped-at}
+use Rattle.reading.proofs.Stands.{bitNumbers, OfBits}
+use Rattle.reading.proofs.OtherLength.{cut-short, made-longer}
 use Rattle.line.specs.Ack.{withAck}
 use Rattle.line.specs.Read.{fieldIn, withIdentifier, decoded, readAnswer}
 use Rattle.line.specs.declared.Line.the-variants.{Frame, Refused}
 use Rattle.line.proofs.ReadAnswers.{read-stopped}
-use Rattle.line.proofs.FirstProblem.{stopped-at}
-use Rattle.line.proofs.Stands.{bitNumbers, OfBits}
-use Rattle.line.proofs.OtherLength.{cut-short, made-longer}
 use Rattle.line.proofs.FrameOf.{field-bytes, bytes-below}
 use Rattle.line.proofs.HeaderOf.{identifier-few}
 use Rattle.line.proofs.RoundTrip.{read-frame, line-scanned}

@@ -26,20 +26,20 @@ use Rattle.field.proofs.FieldBits.{field-length, field-below}
 use Rattle.decoding.specs.Decode.{decodeAnswer}
 use Rattle.decoding.proofs.Accepted.{accepted}
 use Rattle.decoding.proofs.RoundTrip.{decode-encode, payload-of-field, field-of-payload}
-use Rattle.frame.specs.declared.Identifier.{Identifier}
-use Rattle.frame.specs.Identifier.{Allowed}
-use Rattle.frame.specs.Line.{frameLine}
-use Rattle.frame.specs.Answers.{payloadLine}
-use Rattle.scanning.specs.Scan.{identifierIn, slotMost, Scanned, whole, stopped, scanned}
-use Rattle.scanning.specs.declared.Reading.{Reading}
+use Rattle.wire.specs.declared.Identifier.{Identifier}
+use Rattle.wire.specs.Identifier.{Allowed}
+use Rattle.wire.specs.Line.{frameLine}
+use Rattle.wire.specs.Answers.{payloadLine}
+use Rattle.reading.specs.Scan.{identifierIn, slotMost, Scanned, whole, stopped, scanned}
+use Rattle.reading.specs.declared.Reading.{Reading}
+use Rattle.reading.proofs.OnLine.{lineFrom, sound-whole, whole-sound}
+use Rattle.reading.proofs.Right.{Right, right-sound}
+use Rattle.reading.proofs.SoundRight.{sound-right}
 use Rattle.line.specs.Read.{fieldIn, withIdentifier, decoded, readAnswer, payloadIn}
 use Rattle.line.specs.Ack.{withAck}
 use Rattle.line.specs.declared.Line.the-variants.{Frame}
-use Rattle.line.proofs.OnLine.{lineFrom, sound-whole, whole-sound}
 use Rattle.line.proofs.AckSlot.{line-own, ack-again, ack-holds}
 use Rattle.line.proofs.LineOf.{line-of}
-use Rattle.line.proofs.Right.{Right, right-sound}
-use Rattle.line.proofs.SoundRight.{sound-right}
 use Rattle.line.proofs.FrameBits.{headerBits, dataBits, frameBits, frame-start, frame-right, identifier-back, field-back}
 use Rattle.line.proofs.FrameOf.{right-frame, field-bytes, bytes-below}
 use Rattle.line.proofs.HeaderOf.{identifier-few}

@@ -21,19 +21,19 @@ use Rattle.refusals.specs.Table.{placeOf, answerNumbers}
 use Rattle.refusals.proofs.Table.{high-none}
 use Rattle.decoding.specs.Decode.{decodeAnswer}
 use Rattle.decoding.proofs.Small.{decode-small}
-use Rattle.frame.specs.declared.Identifier.{Identifier}
-use Rattle.frame.proofs.Identifiers.{allowed-small, for-c-small}
-use Rattle.scanning.specs.Scan.{longIn, headerWidth, dataStart, identifierIn, dlcIn, crcStart, complete, stuffDue, Verdict, right, wrong, verdict, runWith, frameWith, Scanned, whole, stopped, onward, scan, scanned}
-use Rattle.scanning.specs.declared.Reading.{Reading}
-use Rattle.scanning.proofs.Verdicts.{taken-dlc}
-use Rattle.scanning.proofs.Partial.{width-least, width-most, long-stays, data-stays, dlc-stays}
+use Rattle.wire.specs.declared.Identifier.{Identifier}
+use Rattle.wire.proofs.Identifiers.{allowed-small, for-c-small}
+use Rattle.reading.specs.Scan.{longIn, headerWidth, dataStart, identifierIn, dlcIn, crcStart, complete, stuffDue, Verdict, right, wrong, verdict, runWith, frameWith, Scanned, whole, stopped, onward, scan, scanned}
+use Rattle.reading.specs.declared.Reading.{Reading}
+use Rattle.reading.proofs.Verdicts.{taken-dlc}
+use Rattle.reading.proofs.Partial.{width-least, width-most, long-stays, data-stays, dlc-stays}
+use Rattle.reading.proofs.Sound.{Next, bit-right, stuff-right}
+use Rattle.reading.proofs.FirstProblem.{never, stopped-only}
+use Rattle.reading.proofs.Stands.{At, verdict-at}
 use Rattle.line.specs.Read.{fieldIn, withIdentifier, decoded, readAnswer, lineNumbers}
 use Rattle.line.specs.declared.Line.{Line}
 use Rattle.line.specs.declared.Line.the-variants.{Frame, Refused}
 use Rattle.line.proofs.ReadAnswers.{Bit31Free}
-use Rattle.line.proofs.Sound.{Next, bit-right, stuff-right}
-use Rattle.line.proofs.FirstProblem.{never, stopped-only}
-use Rattle.line.proofs.Stands.{At, verdict-at}
 use Rattle.line.proofs.RoundTrip.{accepted-is-coded}
 
 -- the frame's bits so far are no more than a frame has

@@ -5,27 +5,27 @@
 --     not-acknowledged    where it is, the ACK slot is at that place and holds a 1, and every bit to its left is right, for both
 --     own-never-20        reading it as our own is never answered with 20
 use mathlib.Core.Path.{_≡_, refl, sym, ap, _∙_}
-use mathlib.Core.Bool.{Bool, true, false, cond, not, _&&_}
+use mathlib.Core.Bool.{Bool, true, false, cond, not}
 use mathlib.Core.List.{List, [], _∷_, _++_}
 use mathlib.Core.Logic.{_⊎_, inl, inr}
-use Prim.Native.Nat.{ℕ, _+_, _≤_, _<_}
+use Prim.Native.Nat.{ℕ, _+_, _<_}
 use native.Mathlib.Omega.{arith}
 use lib.Dec.{eqb, ltb}
 use lib.ListN.{length, getD, take}
-use borrow.Author.Tests.{le-leb, ltb-false, eqb-true}
+use borrow.Author.Tests.{ltb-false}
 use Rattle.bits.specs.declared.Run.{Run}
 use Rattle.bits.specs.Stuffing.{nothingSent}
 use Rattle.refusals.specs.declared.Refusal.the-variants.{FieldLength, LineByte, StuffBit, LineLength, Crc, FixedBit, NotAcknowledged}
-use Rattle.scanning.specs.Form.{fits}
-use Rattle.scanning.specs.Scan.{crcStart, complete, stuffDue, mustBe, slotRight, beforeIde, Verdict, right, wrong, shown, verdict, runWith, frameWith, runBehind, frameBehind, Scanned, stopped, onward, scan, scanned}
-use Rattle.scanning.specs.declared.Reading.{Reading}
+use Rattle.reading.specs.Form.{fits}
+use Rattle.reading.specs.Scan.{crcStart, complete, stuffDue, mustBe, beforeIde, Verdict, right, wrong, shown, verdict, runWith, frameWith, runBehind, frameBehind, Scanned, stopped, onward, scan, scanned}
+use Rattle.reading.specs.declared.Reading.{Reading}
+use Rattle.reading.proofs.Sound.{formWrong, dlcWrong, crcWrong, slotWrong}
+use Rattle.reading.proofs.Stands.{twenty}
+use Rattle.reading.proofs.ProblemMet.{problem-met, right-before}
+use Rattle.reading.proofs.Twenty.{unheard, either-taken}
 use Rattle.line.specs.Read.{acknowledged, own, decoded, readAnswer, carried, payloadIn}
 use Rattle.line.specs.declared.Line.the-variants.{Refused}
-use Rattle.line.proofs.Sound.{formWrong, dlcWrong, crcWrong, slotWrong}
-use Rattle.line.proofs.Stands.{twenty}
-use Rattle.line.proofs.ProblemMet.{problem-met, right-before}
 use Rattle.line.proofs.ReadRefusals.{refused-there}
-use Rattle.line.proofs.Twenty.{slot-bit, unheard}
 
 -- ---- a bit
 
@@ -53,13 +53,6 @@ module _ (run : Run) (frame : List ℕ) (place b : ℕ) where
   tests-same false false false d false false false false true = inr refl
   tests-same false false false d false false false false false = inl refl
 
-  own-slot : b ≤ 1 → slotWrong own with ≡ false
-  own-slot low = go (eqb (length with) (crcStart with + 17)) refl
-    where
-      go : (t : Bool) → eqb (length with) (crcStart with + 17) ≡ t → t && not (slotRight own with) ≡ false
-      go true e = let is = slot-bit frame b (eqb-true _ _ e) in ap not (le-leb (getD with (crcStart with + 16) 0) 1 (omega (arith, is)))
-      go false e = refl
-
   pub verdict-same : (verdict acknowledged run frame place b ≡ verdict own run frame place b)
       ⊎ (verdict acknowledged run frame place b ≡ wrong (NotAcknowledged place))
   unfolding verdict shown
@@ -80,7 +73,7 @@ module _ (run : Run) (frame : List ℕ) (place b : ℕ) where
           → (verdict acknowledged run frame place b ≡ verdict own run frame place b)
           ⊎ (verdict acknowledged run frame place b ≡ wrong (NotAcknowledged place))
       byte true d = inl (rw d refl)
-      byte false d = rw (own-slot (ltb-false 1 b d)) (tests (ltb 1 b) (slotWrong acknowledged with))
+      byte false d = rw (either-taken run frame place b own refl (ltb-false 1 b d)) (tests (ltb 1 b) (slotWrong acknowledged with))
 
 -- ---- a line
 

@@ -7,11 +7,11 @@ use Rattle.refusals.specs.declared.Answer.{Answer}
 use Rattle.refusals.specs.declared.Answer.the-variants as answer
 use Rattle.refusals.specs.Table.{Numbers, given, inTable}
 use Rattle.decoding.specs.Decode.{decodeAnswer, payloadOf}
-use Rattle.frame.specs.declared.Identifier.{Identifier}
-use Rattle.frame.specs.Identifier.{numberForC}
-use Rattle.scanning.specs.Scan.{dataStart, identifierIn, dlcIn, Scanned, whole, stopped, scanned}
-use Rattle.scanning.specs.declared.AckSlot.the-variants.{Acknowledged, Either}
-use Rattle.scanning.specs.declared.Reading.{Reading}
+use Rattle.wire.specs.declared.Identifier.{Identifier}
+use Rattle.wire.specs.Identifier.{numberForC}
+use Rattle.reading.specs.Scan.{dataStart, identifierIn, dlcIn, Scanned, whole, stopped, scanned}
+use Rattle.reading.specs.declared.AckSlot.the-variants.{Acknowledged, Either}
+use Rattle.reading.specs.declared.Reading.{Reading}
 use Rattle.line.specs.declared.Line.{Line}
 use Rattle.line.specs.declared.Line.the-variants.{Frame, Refused}
 

@@ -7,8 +7,8 @@ ghost use Rattle.decoding.specs.Decode.{payloadOf};
 ghost use Rattle.decoding.specs.Number.{numberAnswer};
 ghost use Rattle.line.specs.Read.{withIdentifier, lineNumbers};
 use crate::Line;
-use frame::Identifier;
 use refusals::Answer;
+use wire::Identifier;
 
 // It is decoded, and the identifier stands beside the answer. Refused with 2 and 4 to 7.
 pub(crate) fn decode(identifier: Identifier, n: usize, field: u64, payload: &mut [u8]) -> Line

@@ -8,10 +8,10 @@ ghost use Rattle.line.specs.Read.{acknowledged, own, readAnswer, payload
 
 mod data_field;
 
-use frame::Identifier;
+use reading::Reading;
 use refusals::Refusal;
 use scanning::Held;
-use scanning::Reading;
+use wire::Identifier;
 
 // What a line holds: an identifier and a payload, of which this is the length; or a refusal. [7.5]
 pub enum Line {
@@ -28,7 +28,7 @@ pub fn read_line(line: &[u8], payload: &mut [u8]) -> Line
     ensures answer { λ r. ⌜ r ≡ readAnswer acknowledged (now (line .entry)) (length (now (payload .entry))) ⌝ }
     ensures memory { λ r. ⌜ now (payload .exit) ≡ after (lineNumbers r) (payloadIn acknowledged (now (line .entry))) (now (payload .entry)) ⌝ }
 {
-    read(line, payload, scanning::ACKNOWLEDGED)
+    read(line, payload, reading::ACKNOWLEDGED)
 }
 
 // Reads a line of our own maker, which leaves a 1 in the ACK slot: as `read_line`, but 20 is never given.
@@ -36,7 +36,7 @@ pub fn read_own_line(line: &[u8], payload: &mut [u8]) -> Line
     ensures answer { λ r. ⌜ r ≡ readAnswer own (now (line .entry)) (length (now (payload .entry))) ⌝ }
     ensures memory { λ r. ⌜ now (payload .exit) ≡ after (lineNumbers r) (payloadIn own (now (line .entry))) (now (payload .entry)) ⌝ }
 {
-    read(line, payload, scanning::OWN)
+    read(line, payload, reading::OWN)
 }
 
 // Reads a line as the reading asks: its bits decide, and then its data field.

@@ -5,9 +5,9 @@ use mathlib.Core.List.{[], _∷_}
 use Rattle.refusals.specs.Table.{answerNumbers}
 use Rattle.refusals.specs.declared.Answer.the-variants as answer
 use Rattle.refusals.specs.declared.Refusal.the-variants as refusal
-use Rattle.frame.specs.declared.Identifier.the-variants.{Base, Long}
-use Rattle.frame.specs.Answers.{boundsNumbers}
-use Rattle.frame.specs.declared.Bounds.the-variants as bounds
+use Rattle.wire.specs.declared.Identifier.the-variants.{Base, Long}
+use Rattle.wire.specs.Answers.{boundsNumbers}
+use Rattle.wire.specs.declared.Bounds.the-variants as bounds
 use Rattle.line.specs.Read.{lineNumbers}
 use Rattle.line.specs.declared.Line.the-variants as line
 use Rattle.prushgoli.specs.Packing.{pack}

@@ -13,12 +13,12 @@ use Rattle.field.specs.Encode.{encodeAnswer}
 use Rattle.field.proofs.Small.{encode-small}
 use Rattle.decoding.specs.Decode.{decodeAnswer}
 use Rattle.decoding.proofs.Small.{decode-small}
-use Rattle.frame.specs.declared.Identifier.{Identifier}
-use Rattle.frame.specs.Answers.{makeAnswer, lengthAnswer, boundsAnswer, boundsNumbers}
-use Rattle.frame.specs.declared.Bounds.{Bounds}
-use Rattle.frame.specs.declared.Bounds.the-variants as bounds
-use Rattle.frame.proofs.Small.{length-small, make-small, bounds-small}
-use Rattle.scanning.specs.declared.Reading.{Reading}
+use Rattle.wire.specs.declared.Identifier.{Identifier}
+use Rattle.wire.specs.Answers.{makeAnswer, lengthAnswer, boundsAnswer, boundsNumbers}
+use Rattle.wire.specs.declared.Bounds.{Bounds}
+use Rattle.wire.specs.declared.Bounds.the-variants as bounds
+use Rattle.wire.proofs.Small.{length-small, make-small, bounds-small}
+use Rattle.reading.specs.declared.Reading.{Reading}
 use Rattle.line.specs.Read.{readAnswer, lineNumbers}
 use Rattle.line.specs.declared.Line.{Line}
 use Rattle.line.specs.declared.Line.the-variants as line

@@ -15,9 +15,9 @@ use Rattle.refusals.specs.declared.Answer.{Answer}
 use Rattle.refusals.specs.declared.Refusal.{Refusal}
 use Rattle.refusals.proofs.Table.{number-small, high-none}
 use Rattle.refusals.proofs.Answers.{answer-only}
-use Rattle.frame.specs.Answers.{boundsNumbers}
-use Rattle.frame.specs.declared.Bounds.{Bounds}
-use Rattle.frame.proofs.BoundsAnswers.{bounds-only}
+use Rattle.wire.specs.Answers.{boundsNumbers}
+use Rattle.wire.specs.declared.Bounds.{Bounds}
+use Rattle.wire.proofs.BoundsAnswers.{bounds-only}
 use Rattle.line.specs.Read.{lineNumbers}
 use Rattle.line.specs.declared.Line.{Line}
 use Rattle.line.proofs.ReadAnswers.{Bit31Free, line-only}

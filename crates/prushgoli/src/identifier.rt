@@ -1,8 +1,8 @@
 // An identifier as C has it, in one number: bit 31 is set for the long form, the other bits are its number.
 ghost use mathlib.Core.Path.{_≡_};
 ghost use Prim.Native.Nat.{_^_, _<_};
-ghost use Rattle.frame.specs.Identifier.{numberForC, identifierOf};
-use frame::Identifier;
+ghost use Rattle.wire.specs.Identifier.{numberForC, identifierOf};
+use wire::Identifier;
 
 const LONG: u32 = 0x80000000;
 

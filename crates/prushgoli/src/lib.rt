@@ -7,15 +7,15 @@ ghost use Rattle.refusals.specs.After.{after};
 ghost use Rattle.field.specs.Field.{fieldOf};
 ghost use Rattle.field.specs.Encode.{encodeAnswer};
 ghost use Rattle.decoding.specs.Decode.{decodeAnswer, payloadOf};
-ghost use Rattle.frame.specs.Identifier.{identifierOf};
-ghost use Rattle.frame.specs.Answers.{payloadLine, makeAnswer, lengthAnswer, boundsAnswer, boundsNumbers};
+ghost use Rattle.wire.specs.Identifier.{identifierOf};
+ghost use Rattle.wire.specs.Answers.{payloadLine, makeAnswer, lengthAnswer, boundsAnswer, boundsNumbers};
 ghost use Rattle.line.specs.Read.{acknowledged, own, readAnswer, payloadIn, lineNumbers};
 ghost use Rattle.prushgoli.specs.Packing.{pack};
 
 mod identifier;
 mod packing;
 
-use scanning::Reading;
+use reading::Reading;
 
 // Codes a payload into a field.
 #[no_mangle]
@@ -66,7 +66,7 @@ pub extern "C" fn prushgoli_read_line(line: &[u8], payload: &mut [u8]) -> u64
     ensures answer { λ r. ⌜ r ≡ pack (lineNumbers (readAnswer acknowledged (now (line .entry)) (length (now (payload .entry))))) ⌝ }
     ensures memory { λ _. ⌜ now (payload .exit) ≡ after (lineNumbers (readAnswer acknowledged (now (line .entry)) (length (now (payload .entry))))) (payloadIn acknowledged (now (line .entry))) (now (payload .entry)) ⌝ }
 {
-    read(line, payload, scanning::ACKNOWLEDGED)
+    read(line, payload, reading::ACKNOWLEDGED)
 }
 
 // Reads a line of our own maker, in whose ACK slot 0 or 1 may stand.
@@ -75,7 +75,7 @@ pub extern "C" fn prushgoli_read_own_line(line: &[u8], payload: &mut [u8]) -> u6
     ensures answer { λ r. ⌜ r ≡ pack (lineNumbers (readAnswer own (now (line .entry)) (length (now (payload .entry))))) ⌝ }
     ensures memory { λ _. ⌜ now (payload .exit) ≡ after (lineNumbers (readAnswer own (now (line .entry)) (length (now (payload .entry))))) (payloadIn own (now (line .entry))) (now (payload .entry)) ⌝ }
 {
-    read(line, payload, scanning::OWN)
+    read(line, payload, reading::OWN)
 }
 
 // One body for both: the reader is nearly a third of the archive's code. Lent anew, the line comes in registers.

@@ -2,14 +2,14 @@
 ghost use mathlib.Core.Path.{_≡_};
 ghost use Prim.Native.Nat.{_+_, _*_, _^_, _<_};
 ghost use Rattle.refusals.specs.Table.{inTable, placeOf, answerNumbers};
-ghost use Rattle.frame.specs.Answers.{boundsNumbers};
+ghost use Rattle.wire.specs.Answers.{boundsNumbers};
 ghost use Rattle.line.specs.Read.{lineNumbers};
 ghost use Rattle.prushgoli.specs.Packing.{pack};
 use crate::identifier;
-use frame::Bounds;
 use line::Line;
 use refusals::Answer;
 use refusals::Refusal;
+use wire::Bounds;
 
 pub(crate) fn answer(answer: Answer) -> u64
     requires { ⌜ answerNumbers answer .low < 2 ^ 16 ⌝ }

@@ -11,9 +11,9 @@ use lib.ListN.{length}
 use Rattle.bits.specs.Rows.{bits, number}
 use Rattle.bits.specs.declared.Run.{Run}
 use Rattle.bits.specs.Stuffing.{nothingSent}
-use Rattle.scanning.specs.Scan.{Verdict, right, onward, scanned}
+use Rattle.reading.specs.Scan.{Verdict, right, onward, scanned}
+use Rattle.reading.specs.declared.Reading.{Reading}
 use Rattle.scanning.specs.Steps.{widthsOf, least}
-use Rattle.scanning.specs.declared.Reading.{Reading}
 use Rattle.scanning.specs.declared.seen.Seen.{Seen}
 use Rattle.scanning.proofs.Positions.{widthAt, endOf, end-is, first-start}
 use Rattle.scanning.proofs.Known.{in-header}

@@ -13,16 +13,16 @@ use Rattle.bits.specs.declared.Run.{Run}
 use Rattle.refusals.specs.declared.Refusal.the-variants.{FieldLength, LineLength}
 use Rattle.crc.specs.Crc.{crc}
 use Rattle.crc.specs.Dlc.{dataBytes}
-use Rattle.scanning.specs.Scan.{longIn, headerWidth, dataStart, dlcIn, crcStart, crcRight, right, shown}
+use Rattle.reading.specs.Scan.{longIn, headerWidth, dataStart, dlcIn, crcStart, crcRight, right, shown}
+use Rattle.reading.specs.declared.Reading.{Reading}
+use Rattle.reading.proofs.Partial.{width-least, start-least}
+use Rattle.reading.proofs.Verdicts.{taken-dlc, length-refused, crc-refused, nothing-shown}
 use Rattle.scanning.specs.Steps.{holding, headerEnd, headerRead, fieldRead, crcRead, partEnd, fieldEnd}
-use Rattle.scanning.specs.declared.Reading.{Reading}
 use Rattle.scanning.specs.declared.seen.Seen.{Seen}
 use Rattle.scanning.specs.declared.seen.Step.the-variants.{Next, Refused}
-use Rattle.scanning.proofs.Partial.{width-least, start-least}
 use Rattle.scanning.proofs.Positions.{startOf, endOf, next-start, data-start}
 use Rattle.scanning.proofs.Stages.{Stage, first-bit, ide, before-dlc, dlc, data-bits, crc-bits, ack-slot, ending, stage}
 use Rattle.scanning.proofs.Known.{crc-known}
-use Rattle.scanning.proofs.Verdicts.{taken-dlc, length-refused, crc-refused, nothing-shown}
 use Rattle.scanning.proofs.Keeping.{bytes, Told, Within, least-not}
 use Rattle.scanning.proofs.Widths.{longBehind}
 use Rattle.scanning.proofs.Shown.{nothing-behind}

@@ -9,14 +9,14 @@ use lib.Dec.{eqb}
 use lib.ListN.{length, getD}
 use Rattle.bits.specs.declared.Run.{Run}
 use Rattle.refusals.specs.declared.Refusal.the-variants.{FixedBit}
-use Rattle.scanning.specs.Scan.{longIn, formRight, beforeIde, wrong, scanned}
+use Rattle.reading.specs.Scan.{longIn, formRight, beforeIde, wrong, scanned}
+use Rattle.reading.specs.declared.Reading.{Reading}
+use Rattle.reading.proofs.Partial.{width-least, start-least}
+use Rattle.reading.proofs.Verdicts.{form-refused, nothing-shown}
 use Rattle.scanning.specs.Steps.{twice, formRead, Stopped}
-use Rattle.scanning.specs.declared.Reading.{Reading}
 use Rattle.scanning.specs.declared.seen.Seen.{Seen}
 use Rattle.scanning.specs.declared.seen.Step.the-variants.{Next, Refused}
-use Rattle.scanning.proofs.Partial.{width-least, start-least}
 use Rattle.scanning.proofs.Positions.{startOf, endOf, form-start}
-use Rattle.scanning.proofs.Verdicts.{form-refused, nothing-shown}
 use Rattle.scanning.proofs.RawBits.{twice-told}
 use Rattle.scanning.proofs.Keeping.{bytes, Told, Within}
 use Rattle.scanning.proofs.HeaderNumber.{form-read}

@@ -15,22 +15,22 @@ use borrow.Author.Tests.{eqb-true, eqb-false}
 use Rattle.bits.specs.declared.Run.{Run}
 use Rattle.bits.specs.Stuffing.{counted}
 use Rattle.refusals.specs.declared.Refusal.the-variants.{LineByte, FixedBit}
-use Rattle.scanning.specs.Form.{either, form, fits}
-use Rattle.scanning.specs.Scan.{longIn, dlcIn, crcStart, stuffDue, mustBe, slotRight, Verdict, shown, verdict, runWith, frameWith, onward, scan, scanned}
+use Rattle.reading.specs.Form.{either, form, fits}
+use Rattle.reading.specs.Scan.{longIn, dlcIn, crcStart, stuffDue, mustBe, slotRight, Verdict, shown, verdict, runWith, frameWith, onward, scan, scanned}
+use Rattle.reading.specs.declared.Reading.{Reading}
+use Rattle.reading.proofs.Partial.{must-early}
+use Rattle.reading.proofs.StuffDue.{due-within}
+use Rattle.reading.proofs.Verdicts.{byte-above-1, fixed-bit, frame-bit}
 use Rattle.scanning.specs.Steps.{bitAt, oneOn, Stopped}
-use Rattle.scanning.specs.declared.Reading.{Reading}
 use Rattle.scanning.specs.declared.seen.Seen.{Seen}
 use Rattle.scanning.specs.declared.seen.Step.{Step}
 use Rattle.scanning.specs.declared.seen.Step.the-variants.{Next, Refused}
-use Rattle.scanning.proofs.Partial.{must-early}
 use Rattle.scanning.proofs.Positions.{form-from, ending-from}
 use Rattle.scanning.proofs.Known.{behind-the-crc}
 use Rattle.scanning.proofs.Keeping.{bytes, pending, Told, Formed, formed-more, Within}
 use Rattle.scanning.proofs.Passing.{went}
 use Rattle.scanning.proofs.Registers.{Registers, bit-added, ending-added, longer, dlc-known}
 use Rattle.scanning.proofs.RawBits.{Tells, told-more}
-use Rattle.scanning.proofs.StuffDue.{due-within}
-use Rattle.scanning.proofs.Verdicts.{byte-above-1, fixed-bit, frame-bit}
 use Rattle.scanning.proofs.Shown.{shown-inside}
 use Rattle.scanning.proofs.InRow.{begun, leads, within-crc}
 

@@ -18,10 +18,10 @@ use Rattle.bits.specs.Rows.{bits, number}
 use Rattle.bits.proofs.Rows.{bits-length, bits-split, number-append, number-bits, number-low}
 use Rattle.crc.specs.Crc.{crc}
 use Rattle.crc.proofs.CrcFours.{crc-short}
-use Rattle.frame.specs.declared.Identifier.the-variants.{Base, Long}
-use Rattle.scanning.specs.Scan.{longIn, headerWidth, dataStart, identifierIn, dlcIn, crcStart}
+use Rattle.wire.specs.declared.Identifier.the-variants.{Base, Long}
+use Rattle.reading.specs.Scan.{longIn, headerWidth, dataStart, identifierIn, dlcIn, crcStart}
+use Rattle.reading.proofs.Partial.{width-least, width-most, long-stays, dlc-there}
 use Rattle.scanning.specs.Steps.{longTold, identifierTold}
-use Rattle.scanning.proofs.Partial.{width-least, width-most, long-stays, dlc-there}
 
 -- how many bits a header of this number has
 abbrev pub width : ℕ → ℕ

@@ -14,18 +14,18 @@ use lib.Pow.{pow-mono}
 use lib.ListN.{length}
 use Rattle.bits.specs.declared.Run.{Run}
 use Rattle.refusals.specs.declared.Refusal.the-variants.{LineLength}
-use Rattle.scanning.specs.Scan.{longIn, headerWidth, dlcIn, complete, crcStart, stuffDue, Verdict, onward, scanned}
+use Rattle.reading.specs.Scan.{longIn, headerWidth, dlcIn, complete, crcStart, stuffDue, Verdict, onward, scanned}
+use Rattle.reading.specs.declared.Reading.{Reading}
+use Rattle.reading.proofs.Partial.{width-most}
+use Rattle.reading.proofs.StuffDue.{due-past}
 use Rattle.scanning.specs.Steps.{Stopped}
-use Rattle.scanning.specs.declared.Reading.{Reading}
 use Rattle.scanning.specs.declared.seen.Seen.{Seen}
-use Rattle.scanning.proofs.Partial.{width-most}
 use Rattle.scanning.proofs.Positions.{endOf, header-end, data-end, end-within, slot-from}
 use Rattle.scanning.proofs.Known.{in-header, to-the-crc, behind-the-crc, not-complete}
 use Rattle.scanning.proofs.Keeping.{bytes, pending-none, Within}
 use Rattle.scanning.proofs.Passing.{rest, missing}
 use Rattle.scanning.proofs.HeaderNumber.{width}
 use Rattle.scanning.proofs.Registers.{Registers, in-header, in-data, in-crc, behind, data-length, crc-length, form-told, dlc-known}
-use Rattle.scanning.proofs.StuffDue.{due-past}
 
 module _ {reading : Reading} {line : List ℕ} {f : ℕ} {long : Bool} {seen : Seen} {run : Run} {left : ℕ} {frame : List ℕ}
     (w : Within reading line f long seen run left frame) where

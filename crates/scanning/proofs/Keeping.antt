@@ -14,11 +14,11 @@ use lib.Dec.{eqb, ltb}
 use lib.ListN.{length, List·getD-append}
 use borrow.Author.Tests.{ltb-true, ltb-false}
 use Rattle.bits.specs.declared.Run.{Run}
-use Rattle.scanning.specs.Scan.{longIn, crcStart, formRight, slotRight, Verdict, right, shown, onward, scanned}
+use Rattle.reading.specs.Scan.{longIn, crcStart, formRight, slotRight, Verdict, right, shown, onward, scanned}
+use Rattle.reading.specs.declared.Reading.{Reading}
+use Rattle.reading.proofs.Partial.{width-most, long-stays}
 use Rattle.scanning.specs.Steps.{least}
-use Rattle.scanning.specs.declared.Reading.{Reading}
 use Rattle.scanning.specs.declared.seen.Seen.{Seen}
-use Rattle.scanning.proofs.Partial.{width-most, long-stays}
 use Rattle.scanning.proofs.Positions.{startOf, endOf, end-within}
 use Rattle.scanning.proofs.Passing.{rest}
 use Rattle.scanning.proofs.RawBits.{Tells}

@@ -12,8 +12,8 @@ use native.Mathlib.Omega.{arith}
 use lib.Dec.{ltb}
 use lib.ListN.{length}
 use borrow.Author.Tests.{ne-eqb, ltb-true, ltb-false}
-use Rattle.scanning.specs.Scan.{longIn, headerWidth, dataStart, dlcIn, crcStart, complete}
-use Rattle.scanning.proofs.Partial.{width-least}
+use Rattle.reading.specs.Scan.{longIn, headerWidth, dataStart, dlcIn, crcStart, complete}
+use Rattle.reading.proofs.Partial.{width-least}
 use Rattle.scanning.proofs.Positions.{endOf, ide-end, header-end, delimiter-end, end-within}
 
 -- what is known of a frame's bits so far

@@ -1,7 +1,3 @@
-pub mod Verdicts
-pub mod Fitting
-pub mod Partial
-pub mod StuffDue
 pub mod Positions
 pub mod Stages
 pub mod Known
@@ -23,4 +19,3 @@ pub mod RowEnd
 pub mod FormEnds
 pub mod FieldEnds
 pub mod LineEnds
-pub mod Examples

@@ -12,17 +12,17 @@ use lib.Seq.{drop-cons}
 use borrow.Author.Tests.{eq-eqb}
 use Rattle.bits.specs.declared.Run.{Run}
 use Rattle.refusals.specs.declared.Refusal.the-variants.{LineLength}
-use Rattle.scanning.specs.Scan.{identifierIn, dlcIn, complete, crcStart, scan, scanned}
+use Rattle.reading.specs.Scan.{identifierIn, dlcIn, complete, crcStart, scan, scanned}
+use Rattle.reading.specs.declared.Reading.{Reading}
+use Rattle.reading.proofs.Verdicts.{bit-too-many}
 use Rattle.scanning.specs.Held.{dataIn}
 use Rattle.scanning.specs.Steps.{Stopped, Holds, Reads}
-use Rattle.scanning.specs.declared.Reading.{Reading}
 use Rattle.scanning.specs.declared.seen.Seen.{Seen}
 use Rattle.scanning.specs.declared.seen.Step.the-variants.{Next}
 use Rattle.scanning.proofs.Positions.{frame-end}
 use Rattle.scanning.proofs.Known.{crc-known, in-header}
 use Rattle.scanning.proofs.HeaderNumber.{identifier-in}
 use Rattle.scanning.proofs.Registers.{Registers, in-header, in-data, in-crc, behind, dlc-known, data-there}
-use Rattle.scanning.proofs.Verdicts.{bit-too-many}
 use Rattle.scanning.proofs.Keeping.{bytes, Between}
 
 module _ (reading : Reading) (line : List ℕ) (long : Bool) (seen : Seen) (run : Run) (frame : List ℕ)

@@ -9,10 +9,10 @@ use lib.Dec.{eqb, ltb}
 use lib.ListN.{length}
 use borrow.Author.Tests.{ltb-true, ltb-false, eqb-true, eqb-false}
 use Rattle.bits.specs.declared.Run.{Run}
-use Rattle.scanning.specs.Form.{either}
-use Rattle.scanning.specs.Scan.{crcStart, stuffDue, mustBe}
+use Rattle.reading.specs.Form.{either}
+use Rattle.reading.specs.Scan.{crcStart, stuffDue, mustBe}
+use Rattle.reading.specs.declared.Reading.{Reading}
 use Rattle.scanning.specs.Steps.{passed, fieldBit, slotBit, oneBit, andThen, delimiterBit, endingBit, lineBit}
-use Rattle.scanning.specs.declared.Reading.{Reading}
 use Rattle.scanning.specs.declared.seen.Seen.{Seen}
 use Rattle.scanning.specs.declared.seen.Step.{Step}
 use Rattle.scanning.specs.declared.seen.Step.the-variants.{Next, Refused}

@@ -17,15 +17,15 @@ use borrow.Author.Tests.{ne-eqb, ltb-true, ltb-false, leb-true, leb-false, eqb-t
 use Rattle.bits.specs.declared.Run.{Run}
 use Rattle.bits.specs.Stuffing.{counted}
 use Rattle.refusals.specs.declared.Refusal.the-variants.{LineByte, StuffBit, LineLength}
-use Rattle.scanning.specs.Scan.{complete, crcStart, stuffDue, Verdict, right, verdict, runWith, frameWith, Scanned, stopped, onward, scan, scanned}
+use Rattle.reading.specs.Scan.{complete, crcStart, stuffDue, Verdict, right, verdict, runWith, frameWith, Scanned, stopped, onward, scan, scanned}
+use Rattle.reading.specs.declared.Reading.{Reading}
+use Rattle.reading.proofs.StuffDue.{due-within}
+use Rattle.reading.proofs.Verdicts.{byte-above-1, sixth-bit, stuff-bit}
 use Rattle.scanning.specs.Steps.{bitAt, behindStuffBit, dueIn, stuffBit, passed, Stopped}
-use Rattle.scanning.specs.declared.Reading.{Reading}
 use Rattle.scanning.specs.declared.seen.Seen.{Seen}
 use Rattle.scanning.specs.declared.seen.Step.{Step}
 use Rattle.scanning.specs.declared.seen.Step.the-variants.{Next, Refused}
 use Rattle.scanning.proofs.RawBits.{Tells, five-told, bit-told, told-stuff}
-use Rattle.scanning.proofs.StuffDue.{due-within}
-use Rattle.scanning.proofs.Verdicts.{byte-above-1, sixth-bit, stuff-bit}
 
 abbrev pub rest : Reading → List ℕ → Seen → Run → List ℕ → Scanned
 rest reading line seen run frame = scan reading run frame (seen .place) (drop (seen .place) line)

@@ -14,7 +14,7 @@ use native.Mathlib.Nat.{suc-add}
 use native.Mathlib.Numerals.{add-one}
 use native.Mathlib.Omega.{arith}
 use lib.ListN.{getD}
-use Rattle.scanning.specs.Scan.{headerWidth}
+use Rattle.reading.specs.Scan.{headerWidth}
 use Rattle.scanning.specs.Steps.{widthsOf}
 
 -- how many bits field f has

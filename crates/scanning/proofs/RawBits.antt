@@ -14,7 +14,7 @@ use borrow.Author.Tests.{ne-eqb, eqb-true}
 use Rattle.bits.specs.declared.Run.{Run}
 use Rattle.bits.specs.Stuffing.{counted}
 use Rattle.bits.proofs.Everywhere.{everywhere, everywhere-at}
-use Rattle.scanning.specs.Scan.{runWith}
+use Rattle.reading.specs.Scan.{runWith}
 use Rattle.scanning.specs.Steps.{dueIn, twice}
 
 -- how many of the k lowest bits of t, from the lowest on, are b

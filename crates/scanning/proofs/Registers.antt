@@ -22,7 +22,7 @@ use Rattle.bits.proofs.Rows.{bits-length, bits-join, number-low}
 use Rattle.crc.specs.Crc.{crc}
 use Rattle.crc.specs.Dlc.{dataBytes}
 use Rattle.crc.proofs.Dlc.{data-bytes}
-use Rattle.scanning.specs.Scan.{longIn, dataStart, dlcIn, crcStart, crcRight}
+use Rattle.reading.specs.Scan.{longIn, dataStart, dlcIn, crcStart, crcRight}
 use Rattle.scanning.specs.Held.{dataIn}
 use Rattle.scanning.specs.Steps.{longTold}
 use Rattle.scanning.proofs.HeaderNumber.{width, Shaped, start-length, form-in, start-in, dlc-in, crc-in, crc-wide, frame-read, shaped-read}

@@ -14,20 +14,20 @@ use borrow.Author.Tests.{le-leb, lt-leb, ltb-true, ltb-false, eqb-true, eqb-fals
 use Rattle.bits.specs.declared.Run.{Run}
 use Rattle.refusals.specs.declared.Refusal.{Refusal}
 use Rattle.refusals.specs.declared.Refusal.the-variants.{LineByte, FixedBit, NotAcknowledged}
-use Rattle.scanning.specs.Form.{either, fits}
-use Rattle.scanning.specs.Scan.{headerWidth, crcStart, stuffDue, mustBe, slotMost, slotRight, runWith}
+use Rattle.reading.specs.Form.{either, fits}
+use Rattle.reading.specs.Scan.{headerWidth, crcStart, stuffDue, mustBe, slotMost, slotRight, runWith}
+use Rattle.reading.specs.declared.Reading.{Reading}
+use Rattle.reading.proofs.Partial.{start-least}
+use Rattle.reading.proofs.Fitting.{unfit, fit}
+use Rattle.reading.proofs.Verdicts.{slot-refused}
 use Rattle.scanning.specs.Steps.{bitAt, behindBit, behindEnding, above, bitAtMost, fieldBit, slotBit, oneBit}
-use Rattle.scanning.specs.declared.Reading.{Reading}
 use Rattle.scanning.specs.declared.seen.Seen.{Seen}
 use Rattle.scanning.specs.declared.seen.Step.the-variants.{Next, Refused}
-use Rattle.scanning.proofs.Partial.{start-least}
 use Rattle.scanning.proofs.Positions.{slot-from, slot-end}
 use Rattle.scanning.proofs.Known.{crc-known}
-use Rattle.scanning.proofs.Fitting.{unfit, fit}
 use Rattle.scanning.proofs.Keeping.{bytes, Within}
 use Rattle.scanning.proofs.Registers.{longer, dlc-known}
 use Rattle.scanning.proofs.RawBits.{Tells}
-use Rattle.scanning.proofs.Verdicts.{slot-refused}
 use Rattle.scanning.proofs.InRow.{reach}
 use Rattle.scanning.proofs.FrameBit.{Goes, goes, byte-goes, added, added-late, formed-on, fixed-goes, bit-shown, told-on, untold, right-goes}
 

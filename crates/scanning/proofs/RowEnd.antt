@@ -11,9 +11,9 @@ use lib.ListN.{length}
 use Rattle.bits.specs.Rows.{number}
 use Rattle.bits.specs.declared.Run.{Run}
 use Rattle.refusals.specs.declared.Refusal.{Refusal}
-use Rattle.scanning.specs.Scan.{Verdict, right, wrong, shown, onward, scanned}
+use Rattle.reading.specs.Scan.{Verdict, right, wrong, shown, onward, scanned}
+use Rattle.reading.specs.declared.Reading.{Reading}
 use Rattle.scanning.specs.Steps.{holding, Stopped}
-use Rattle.scanning.specs.declared.Reading.{Reading}
 use Rattle.scanning.specs.declared.seen.Seen.{Seen}
 use Rattle.scanning.specs.declared.seen.Step.{Step}
 use Rattle.scanning.specs.declared.seen.Step.the-variants.{Next, Refused}

@@ -17,13 +17,13 @@ use lib.Seq.{getD-append-add, getD-set-other}
 use borrow.Author.Tests.{lt-ltb, le-ltb, eq-eqb, ne-eqb, eqb-true, eqb-false, leb-true}
 use mir.Facts.{and-yes}
 use Rattle.bits.proofs.Everywhere.{everywhere, everywhere-at}
-use Rattle.scanning.specs.Form.{either, headerForm, form}
-use Rattle.scanning.specs.Scan.{longIn, dlcIn, slotMost, mustBe}
+use Rattle.reading.specs.Form.{either, headerForm, form}
+use Rattle.reading.specs.Scan.{longIn, dlcIn, slotMost, mustBe}
+use Rattle.reading.specs.declared.AckSlot.{AckSlot}
+use Rattle.reading.specs.declared.AckSlot.the-variants.{Acknowledged, Either}
+use Rattle.reading.specs.declared.Reading.{Reading}
+use Rattle.reading.proofs.Partial.{must-early, must-header}
 use Rattle.scanning.specs.Steps.{widthsOf, mostList, mostOf}
-use Rattle.scanning.specs.declared.AckSlot.{AckSlot}
-use Rattle.scanning.specs.declared.AckSlot.the-variants.{Acknowledged, Either}
-use Rattle.scanning.specs.declared.Reading.{Reading}
-use Rattle.scanning.proofs.Partial.{must-early, must-header}
 use Rattle.scanning.proofs.Positions.{before, startOf, endOf, end-is}
 use Rattle.scanning.proofs.Known.{Known, early, in-header, all-known, how-known}
 

@@ -10,15 +10,15 @@ use lib.Dec.{ltb}
 use lib.ListN.{length}
 use borrow.Author.Tests.{ltb-true, ltb-false}
 use Rattle.bits.specs.declared.Run.{Run}
-use Rattle.scanning.specs.Scan.{longIn, headerWidth, dataStart, dlcIn, crcStart, slotRight, right, shown}
+use Rattle.reading.specs.Scan.{longIn, headerWidth, dataStart, dlcIn, crcStart, slotRight, right, shown}
+use Rattle.reading.specs.declared.Reading.{Reading}
+use Rattle.reading.proofs.Partial.{width-least, start-least}
+use Rattle.reading.proofs.Verdicts.{dlc-taken, nothing-shown}
 use Rattle.scanning.specs.Steps.{least}
-use Rattle.scanning.specs.declared.Reading.{Reading}
-use Rattle.scanning.proofs.Partial.{width-least, start-least}
 use Rattle.scanning.proofs.Positions.{startOf, endOf, form-from, data-from, ending-from, ide-end, header-end, crc-end, slot-end, last-from}
 use Rattle.scanning.proofs.Stages.{Stage, first-bit, ide, before-dlc, dlc, data-bits, crc-bits, ack-slot, ending, stage}
 use Rattle.scanning.proofs.Known.{crc-known, Known, early, in-header, all-known, how-known, early-or-known}
 use Rattle.scanning.proofs.Registers.{Registers, in-header, in-data, in-crc, behind, dlc-known}
-use Rattle.scanning.proofs.Verdicts.{dlc-taken, nothing-shown}
 use Rattle.scanning.proofs.Keeping.{Formed}
 use mathlib.Core.Logic.{_⊎_, inl, inr}
 

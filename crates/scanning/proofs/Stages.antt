@@ -6,7 +6,7 @@ use Prim.Native.Nat.{ℕ, suc, _+_, _-_, _*_, _≤_, _<_}
 use native.Mathlib.Omega.{arith}
 use lib.Dec.{eqb, ltb}
 use borrow.Author.Tests.{ltb-true, ltb-false, eqb-true, eqb-false}
-use Rattle.scanning.specs.Scan.{headerWidth}
+use Rattle.reading.specs.Scan.{headerWidth}
 use Rattle.scanning.proofs.Positions.{startOf, endOf, later, identifier-start, form-start, dlc-start, data-start, crc-start, ending-start, slot-start, last-start, frame-end}
 
 -- start of frame, the bits from there to IDE, the other header fields but the DLC, the DLC, data, CRC, the ACK slot, and the other bits

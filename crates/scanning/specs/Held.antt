@@ -4,8 +4,8 @@ use mathlib.Core.List.{List}
 use lib.ListN.{take, drop}
 use Rattle.bits.specs.Rows.{number}
 use Rattle.refusals.specs.Table.{Numbers, given, inTable}
-use Rattle.frame.specs.Identifier.{numberForC}
-use Rattle.scanning.specs.Scan.{dataStart, identifierIn, dlcIn, Scanned, whole, stopped}
+use Rattle.wire.specs.Identifier.{numberForC}
+use Rattle.reading.specs.Scan.{dataStart, identifierIn, dlcIn, Scanned, whole, stopped}
 use Rattle.scanning.specs.declared.Held.{Held}
 use Rattle.scanning.specs.declared.Held.the-variants.{Frame, Refused}
 

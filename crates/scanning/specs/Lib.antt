@@ -1,4 +1,2 @@
-pub mod Form
-pub mod Scan
 pub mod Held
 pub mod Steps

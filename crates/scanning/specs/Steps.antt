@@ -9,12 +9,12 @@ use Rattle.bits.specs.Rows.{bits}
 use Rattle.refusals.specs.declared.Refusal.{Refusal}
 use Rattle.refusals.specs.declared.Refusal.the-variants.{FieldLength, LineByte, StuffBit, LineLength, Crc, FixedBit, NotAcknowledged}
 use Rattle.crc.specs.Crc.{crc}
-use Rattle.frame.specs.declared.Identifier.{Identifier}
-use Rattle.frame.specs.declared.Identifier.the-variants.{Base, Long}
+use Rattle.wire.specs.declared.Identifier.{Identifier}
+use Rattle.wire.specs.declared.Identifier.the-variants.{Base, Long}
 use Rattle.crc.specs.Dlc.{dataBytes}
-use Rattle.scanning.specs.Scan.{identifierIn, dlcIn, slotMost, Scanned, whole, stopped}
+use Rattle.reading.specs.Scan.{identifierIn, dlcIn, slotMost, Scanned, whole, stopped}
 use Rattle.scanning.specs.Held.{dataIn}
-use Rattle.scanning.specs.declared.Reading.{Reading}
+use Rattle.reading.specs.declared.Reading.{Reading}
 use Rattle.scanning.specs.declared.seen.Seen.{Seen}
 use Rattle.scanning.specs.declared.seen.Step.{Step}
 use Rattle.scanning.specs.declared.seen.Step.the-variants.{Next, Refused}

@@ -2,10 +2,10 @@
 // are one field.
 ghost use mathlib.Core.Bool.{false};
 ghost use mathlib.Core.Path.{_≡_};
-ghost use Rattle.scanning.specs.Scan.{slotMost};
+ghost use Rattle.reading.specs.Scan.{slotMost};
 ghost use Rattle.scanning.specs.Steps.{widthsOf, mostOf};
-use crate::AckSlot;
-use crate::Reading;
+use reading::AckSlot;
+use reading::Reading;
 
 // How many there are, and those that the code must tell from the others.
 pub(crate) const COUNT: usize = 10;

@@ -1,7 +1,7 @@
 // What the bits of a header tell, which are the lowest of a number.
 ghost use mathlib.Core.Path.{_≡_};
 ghost use Rattle.scanning.specs.Steps.{identifierTold};
-use frame::Identifier;
+use wire::Identifier;
 
 // The base form has 19 bits; a number with more bits is the long form's, whose SRR and IDE are 1. Behind the identifier stand seven bits,
 // and in the long form two stand between its high bits and its low ones.

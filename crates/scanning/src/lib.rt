@@ -1,6 +1,6 @@
 // The bits of a line from the left: the first problem met, or what the frame holds that they make.
 ghost use mathlib.Core.Path.{_≡_};
-ghost use Rattle.scanning.specs.Scan.{scanned};
+ghost use Rattle.reading.specs.Scan.{scanned};
 ghost use Rattle.scanning.specs.Held.{heldIn};
 
 mod bit;
@@ -12,31 +12,10 @@ mod seen;
 mod stuffing;
 mod walk;
 
-use frame::Identifier;
+use reading::Reading;
 use refusals::Refusal;
 use seen::Step;
-
-// What a reading takes in the ACK slot. [12.18]
-pub enum AckSlot {
-    // 0: somebody heard the frame.
-    Acknowledged,
-    // 0 or 1: our own maker leaves a 1.
-    Either,
-}
-
-// What a reading asks of a line beside the rules that hold for every line. [12.18]
-pub struct Reading {
-    pub slot: AckSlot,
-}
-
-// How a line from a live bus is read, and one of our own maker.
-pub const ACKNOWLEDGED: Reading = Reading {
-    slot: AckSlot::Acknowledged,
-};
-
-pub const OWN: Reading = Reading {
-    slot: AckSlot::Either,
-};
+use wire::Identifier;
 
 // What the frame of a line holds: an identifier and n data bytes, whose bits are the lowest of `field`; or a refusal. [12.1, 12.15]
 pub enum Held {

@@ -1,14 +1,14 @@
 // Reading the bits of a line from the left: the first problem met is the answer.
 ghost use Prim.Native.Nat.{_<_};
-ghost use Rattle.scanning.specs.Scan.{scanned};
+ghost use Rattle.reading.specs.Scan.{scanned};
 ghost use Rattle.scanning.specs.Steps.{Reads};
-use crate::Reading;
 use crate::bit;
 use crate::field_end;
 use crate::fields;
 use crate::places;
 use crate::seen;
 use crate::seen::Step;
+use reading::Reading;
 use refusals::Refusal;
 
 // What is seen of the whole line, field by field and bit by bit.

@@ -11,10 +11,10 @@ use Rattle.field.specs.Sizes.{fieldBytes}
 use Rattle.field.specs.declared.table.Row.{Row}
 use Rattle.field.proofs.Sizes.{fieldBytes-few}
 use Rattle.field.proofs.TableRows.{row-bytes}
-use Rattle.frame.specs.StuffBits.{headerStuffBits}
-use Rattle.frame.specs.Identifier.{Allowed}
-use Rattle.frame.proofs.Identifiers.{told-refused, told-allowed}
-use Rattle.frame.proofs.BoundsAnswers.{bounds-identifier, bounds-size-high, bounds-found}
+use Rattle.wire.specs.StuffBits.{headerStuffBits}
+use Rattle.wire.specs.Identifier.{Allowed}
+use Rattle.wire.proofs.Identifiers.{told-refused, told-allowed}
+use Rattle.wire.proofs.BoundsAnswers.{bounds-identifier, bounds-size-high, bounds-found}
 use Rattle.frame.proofs.frame_bounds.Statement.{statement}
 use Rattle.frame.proofs.frame_bounds.Tie as tie
 

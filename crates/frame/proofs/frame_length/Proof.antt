@@ -3,9 +3,9 @@ use mathlib.Core.Path.{_≡_, sym, ap, _∙_, subst}
 use borrow.Author.Needs.{needs}
 use lib.ListN.{length}
 use Rattle.refusals.specs.declared.Answer.the-variants.{Length}
+use Rattle.wire.proofs.FrameAnswers.{length-accepts}
 use Rattle.frame.specs.Framing.{Gives}
 use Rattle.frame.specs.declared.framing.Framed.{Framed}
-use Rattle.frame.proofs.FrameAnswers.{length-accepts}
 use Rattle.frame.proofs.frame_length.Statement.{statement}
 use Rattle.frame.proofs.frame_length.Tie as tie
 

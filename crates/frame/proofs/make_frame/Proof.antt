@@ -8,11 +8,11 @@ use borrow.Author.Needs.{needs}
 use lib.ListN.{length, drop}
 use Rattle.refusals.specs.declared.Answer.the-variants.{Length}
 use Rattle.refusals.proofs.After.{refused-keeps}
-use Rattle.frame.specs.Identifier.{roomFor}
-use Rattle.frame.specs.Answers.{payloadLine}
+use Rattle.wire.specs.Identifier.{roomFor}
+use Rattle.wire.specs.Answers.{payloadLine}
+use Rattle.wire.proofs.FrameAnswers.{make-short, make-accepts}
 use Rattle.frame.specs.Framing.{Gives, IsFrame}
 use Rattle.frame.specs.declared.framing.Framed.{Framed}
-use Rattle.frame.proofs.FrameAnswers.{make-short, make-accepts}
 use Rattle.frame.proofs.make_frame.Statement.{statement}
 use Rattle.frame.proofs.make_frame.Tie as tie
 

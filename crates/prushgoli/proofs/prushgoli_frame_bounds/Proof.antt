@@ -1,9 +1,9 @@
 -- `prushgoli::prushgoli_frame_bounds` meets its contract: it passes on what `frame::frame_bounds` answered. Assumes nothing.
 use mathlib.Core.Path.{ap, _∙_}
 use borrow.Author.Needs.{needs}
-use Rattle.frame.specs.declared.Identifier.{Identifier}
-use Rattle.frame.specs.Answers.{boundsAnswer, boundsNumbers}
-use Rattle.frame.specs.declared.Bounds.{Bounds}
+use Rattle.wire.specs.declared.Identifier.{Identifier}
+use Rattle.wire.specs.Answers.{boundsAnswer, boundsNumbers}
+use Rattle.wire.specs.declared.Bounds.{Bounds}
 use Rattle.prushgoli.specs.Packing.{pack}
 use Rattle.prushgoli.proofs.Fits.{bounds-both}
 use Rattle.prushgoli.proofs.prushgoli_frame_bounds.Statement.{statement}

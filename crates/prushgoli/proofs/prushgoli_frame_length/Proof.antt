@@ -3,8 +3,8 @@ use mathlib.Core.Path.{ap, _∙_}
 use borrow.Author.Needs.{needs}
 use Rattle.refusals.specs.Table.{answerNumbers}
 use Rattle.refusals.specs.declared.Answer.{Answer}
-use Rattle.frame.specs.declared.Identifier.{Identifier}
-use Rattle.frame.specs.Answers.{lengthAnswer}
+use Rattle.wire.specs.declared.Identifier.{Identifier}
+use Rattle.wire.specs.Answers.{lengthAnswer}
 use Rattle.prushgoli.specs.Packing.{pack}
 use Rattle.prushgoli.proofs.Fits.{length-fits}
 use Rattle.prushgoli.proofs.prushgoli_frame_length.Statement.{statement}

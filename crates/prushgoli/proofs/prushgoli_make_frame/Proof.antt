@@ -3,7 +3,7 @@ use borrow.Author.Needs.{needs}
 use Rattle.refusals.specs.After.{after}
 use Rattle.refusals.specs.Table.{answerNumbers}
 use Rattle.refusals.specs.declared.Answer.{Answer}
-use Rattle.frame.specs.Answers.{payloadLine}
+use Rattle.wire.specs.Answers.{payloadLine}
 use Rattle.prushgoli.proofs.Packed.{same-packed}
 use Rattle.prushgoli.proofs.Fits.{make-fits}
 use Rattle.prushgoli.proofs.prushgoli_make_frame.Statement.{statement}

@@ -3,8 +3,8 @@ use mathlib.Core.Path.{_≡_, refl, sym, ap, subst}
 use mathlib.Core.List.{List}
 use Prim.Native.Nat.{ℕ, _%_}
 use borrow.Author.Needs.{needs}
-use Rattle.frame.specs.declared.Identifier.{Identifier}
-use Rattle.scanning.specs.Scan.{Scanned, whole, scanned}
+use Rattle.wire.specs.declared.Identifier.{Identifier}
+use Rattle.reading.specs.Scan.{Scanned, whole, scanned}
 use Rattle.scanning.specs.Held.{heldIn}
 use Rattle.scanning.specs.Steps.{identifierTold, Holds, Reads}
 use Rattle.scanning.specs.declared.Held.the-variants.{Frame}

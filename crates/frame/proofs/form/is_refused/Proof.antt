@@ -2,8 +2,8 @@
 use mathlib.Core.Path.{sym, ap}
 use borrow.Author.Needs.{needs}
 use lib.Dec.{ltb}
-use Rattle.frame.specs.declared.Identifier.{Identifier}
-use Rattle.frame.specs.Identifier.{numberIn, greatest}
+use Rattle.wire.specs.declared.Identifier.{Identifier}
+use Rattle.wire.specs.Identifier.{numberIn, greatest}
 use Rattle.frame.proofs.form.is_refused.Statement.{statement}
 use Rattle.frame.proofs.form.is_refused.Tie as tie
 

@@ -3,14 +3,14 @@ use mathlib.Core.Path.{sym, ap, _∙_}
 use Prim.Native.Nat.{_≤_}
 use native.Mathlib.Omega.{arith}
 use borrow.Author.Needs.{needs}
+use Rattle.bits.proofs.Below.{below-at}
 use Rattle.refusals.specs.declared.Answer.the-variants.{Refused}
 use Rattle.field.proofs.Coded.{IsField, coded-field, coded-refused}
-use Rattle.bits.proofs.Below.{below-at}
-use Rattle.frame.specs.Identifier.{Allowed}
-use Rattle.frame.proofs.Identifiers.{told-refused, told-allowed}
-use Rattle.frame.proofs.Demand3.{room-enough}
-use Rattle.frame.proofs.FrameAnswers.{length-identifier, length-payload-long, make-identifier, make-payload-long}
-use Rattle.frame.proofs.PayloadLine.{coded-few, coded-quiet, coded-line}
+use Rattle.wire.specs.Identifier.{Allowed}
+use Rattle.wire.proofs.Identifiers.{told-refused, told-allowed}
+use Rattle.wire.proofs.Demand3.{room-enough}
+use Rattle.wire.proofs.FrameAnswers.{length-identifier, length-payload-long, make-identifier, make-payload-long}
+use Rattle.wire.proofs.PayloadLine.{coded-few, coded-quiet, coded-line}
 use Rattle.frame.proofs.framing.frame.Statement.{statement}
 use Rattle.frame.proofs.framing.frame.Tie as tie
 

@@ -4,12 +4,12 @@ use Prim.Native.Nat.{ℕ, _+_, _*_, _/_, _%_, _^_, _≤_, _<_}
 use native.Mathlib.Omega.{arith}
 use borrow.Author.Needs.{needs}
 use Rattle.bits.specs.Rows.{bits}
-use Rattle.frame.specs.declared.Identifier.{Identifier}
-use Rattle.frame.specs.declared.Identifier.the-variants.{Base, Long}
-use Rattle.frame.specs.Header.{header}
+use Rattle.wire.specs.declared.Identifier.{Identifier}
+use Rattle.wire.specs.declared.Identifier.the-variants.{Base, Long}
+use Rattle.wire.specs.Header.{header}
+use Rattle.wire.specs.Identifier.{Allowed}
+use Rattle.wire.proofs.HeaderBits.{header-number, long-number}
 use Rattle.frame.specs.Parts.{IsHeader}
-use Rattle.frame.specs.Identifier.{Allowed}
-use Rattle.frame.proofs.HeaderBits.{header-number, long-number}
 use Rattle.frame.proofs.header.of.Statement.{statement}
 use Rattle.frame.proofs.header.of.Tie as tie
 

@@ -9,9 +9,10 @@ use Rattle.bits.specs.Rows.{bits}
 use Rattle.bits.specs.Stuffing.{stuffCount, runAfterRow}
 use Rattle.bits.proofs.Rows.{bits-length}
 use Rattle.crc.specs.Crc.{crc}
+use Rattle.wire.proofs.LineParts.{dataRun}
 use Rattle.frame.specs.Fours.{runOf, quietCheck}
 use Rattle.frame.specs.Parts.{headerBits, dataBits}
-use Rattle.frame.proofs.LineParts.{dataRun, crc-of-parts, quiet-length}
+use Rattle.frame.proofs.FrameParts.{crc-of-parts, quiet-length}
 use Rattle.frame.proofs.Quiet.{check-drawn}
 use Rattle.frame.proofs.length.of.Statement.{statement}
 use Rattle.frame.proofs.length.of.Tie as tie

@@ -10,10 +10,11 @@ use Rattle.bits.specs.Stuffing.{nothingSent, stuffed, stuffCount, runAfterRow}
 use Rattle.bits.proofs.Rows.{bits-length}
 use Rattle.bits.proofs.Stuffing.{stuffed-append}
 use Rattle.crc.specs.Crc.{crc}
+use Rattle.wire.proofs.LineParts.{headerRun}
 use Rattle.frame.specs.Parts.{headerBits, dataBits, Fit, lineIn}
 use Rattle.frame.specs.Writing.{tailRow}
 use Rattle.frame.specs.declared.parts.Parts.{Parts}
-use Rattle.frame.proofs.LineParts.{headerRun, line-parts, crc-of-parts}
+use Rattle.frame.proofs.FrameParts.{line-parts, crc-of-parts}
 use Rattle.frame.proofs.Quiet.{quiet-sent}
 use Rattle.frame.proofs.Written.{written-length, written-behind, written-line}
 use Rattle.frame.proofs.writing.whole.Statement.{statement}

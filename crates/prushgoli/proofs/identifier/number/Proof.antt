@@ -3,8 +3,8 @@ use mathlib.Core.Path.{_≡_, sym, ap, subst}
 use Prim.Native.Nat.{_^_, _<_}
 use native.Mathlib.Omega.{arith}
 use borrow.Author.Needs.{needs}
-use Rattle.frame.specs.declared.Identifier.{Identifier}
-use Rattle.frame.specs.Identifier.{numberForC}
+use Rattle.wire.specs.declared.Identifier.{Identifier}
+use Rattle.wire.specs.Identifier.{numberForC}
 use Rattle.prushgoli.proofs.identifier.number.Statement.{statement}
 use Rattle.prushgoli.proofs.identifier.number.Tie as tie
 

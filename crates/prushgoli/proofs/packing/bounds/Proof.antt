@@ -3,8 +3,8 @@ use mathlib.Core.Path.{_≡_, sym, ap, _∙_, subst}
 use Prim.Native.Nat.{_^_, _<_}
 use native.Mathlib.Omega.{arith}
 use borrow.Author.Needs.{needs}
-use Rattle.frame.specs.Answers.{boundsNumbers}
-use Rattle.frame.specs.declared.Bounds.{Bounds}
+use Rattle.wire.specs.Answers.{boundsNumbers}
+use Rattle.wire.specs.declared.Bounds.{Bounds}
 use Rattle.prushgoli.specs.Packing.{pack}
 use Rattle.prushgoli.proofs.packing.bounds.Statement.{statement}
 use Rattle.prushgoli.proofs.packing.bounds.Tie as tie

@@ -9,12 +9,12 @@ use borrow.Author.Needs.{needs}
 use Rattle.bits.specs.declared.Run.{Run}
 use Rattle.bits.specs.Stuffing.{nothingSent}
 use Rattle.refusals.specs.declared.Refusal.{Refusal}
-use Rattle.scanning.specs.Scan.{scanned}
+use Rattle.reading.specs.Scan.{scanned}
+use Rattle.reading.specs.declared.Reading.{Reading}
+use Rattle.reading.proofs.Partial.{width-most}
 use Rattle.scanning.specs.Steps.{widthsOf, mostOf, Stopped}
-use Rattle.scanning.specs.declared.Reading.{Reading}
 use Rattle.scanning.proofs.Positions.{endOf, end-is, next-start, form-start, end-some, end-within}
 use Rattle.scanning.proofs.Rows.{readingOf, reading-told, most-bit}
-use Rattle.scanning.proofs.Partial.{width-most}
 use Rattle.scanning.proofs.Keeping.{bytes, Told, Between, Within, least-both, end-small}
 use Rattle.scanning.proofs.InRow.{number-small}
 use Rattle.scanning.proofs.FrameBit.{Goes}

@@ -1,0 +1,10 @@
+pub mod Identifiers
+pub mod HeaderBits
+pub mod HeaderStuff
+pub mod LineParts
+pub mod Demand3
+pub mod PayloadLine
+pub mod FrameAnswers
+pub mod BoundsAnswers
+pub mod Reported
+pub mod Small
