@@ -1,4 +1,6 @@
 // The CRC of a frame, four bits at a time: the division is linear, so that what four bits leave can be looked up.
+#![tactic(auto)]
+
 ghost use Rattle.std.specs.Prelude.{◌≡◌, List, ◌++◌, ℕ, ◌*◌, ◌%◌, ◌^◌, ◌≤◌, ◌<◌};
 ghost use Rattle.bits.specs.Rows.{bits};
 ghost use Rattle.crc.specs.Crc.{crc};

@@ -1,6 +1,8 @@
 // The payload of a data field: decoded from bytes, or from one number.
 //
 // On success only the bytes of the result are written; after a refusal the lent buffer holds its old bytes.
+#![tactic(auto)]
+
 ghost use Rattle.std.specs.Prelude.{◌≡◌, length};
 ghost use Rattle.refusals.specs.Table.{answer_numbers};
 ghost use Rattle.refusals.specs.After.{after};

@@ -1,6 +1,8 @@
 // The data field of a payload of 0 to 7 bytes.
 //
 // On success only the bytes of the result are written; after a refusal the lent buffer holds its old bytes.
+#![tactic(auto)]
+
 ghost use Rattle.std.specs.Prelude.{◌≡◌, length};
 ghost use Rattle.refusals.specs.Table.{answer_numbers};
 ghost use Rattle.refusals.specs.After.{after};

@@ -1,6 +1,8 @@
 // The frame of an identifier and a payload: a CAN data frame on the wire, of either form, its length and its bounds.
 //
 // On success only the bytes of the result are written; after a refusal the lent buffer holds its old bytes.
+#![tactic(auto)]
+
 ghost use Rattle.std.specs.Prelude.{◌≡◌, length};
 ghost use Rattle.refusals.specs.Table.{answer_numbers};
 ghost use Rattle.refusals.specs.After.{after};

@@ -1,6 +1,8 @@
 // Reading a line: the identifier and the payload of the frame that it holds.
 //
 // On success only the bytes of the payload are written; after a refusal the lent buffer holds its old bytes.
+#![tactic(auto)]
+
 ghost use Rattle.std.specs.Prelude.{◌≡◌, length};
 ghost use Rattle.refusals.specs.After.{after};
 ghost use Rattle.line.specs.Read.{acknowledged, own, read_answer, payload_in, line_numbers};

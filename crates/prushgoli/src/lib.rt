@@ -1,5 +1,7 @@
 // The library as C calls it: each call under its C name, its answer packed into one number. A slice passes as pointer and length, an
 // identifier as one number.
+#![tactic(auto)]
+
 ghost use Rattle.std.specs.Prelude.{◌≡◌, length};
 ghost use Rattle.refusals.specs.Table.{answer_numbers};
 ghost use Rattle.refusals.specs.After.{after};

@@ -1,4 +1,5 @@
 // How a line may be read. What it is then answered with is said in specs/; the code is in crates scanning and line.
+#![tactic(auto)]
 
 // What a reading takes in the ACK slot. [12.18]
 #[derive(Drop)]

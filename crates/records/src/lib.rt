@@ -1,4 +1,6 @@
 // The records of a trace: one byte of kind, then a body whose length the kind fixes.
+#![tactic(auto)]
+
 ghost use Rattle.std.specs.Prelude.{◌≡◌, min};
 ghost use Rattle.records.specs.Records.{most_bytes, whole_or_14, record_at};
 

@@ -1,4 +1,6 @@
 // The refusals of documents 01 and 02, each with its number and its place, and the answer of coding and decoding.
+#![tactic(auto)]
+
 ghost use Rattle.std.specs.Prelude.{◌≡◌};
 ghost use Rattle.refusals.specs.Table.{number_of, place_of};
 

@@ -1,4 +1,6 @@
 // The report over a trace: a line of text, in ASCII, for each record.
+#![tactic(auto)]
+
 ghost use Rattle.std.specs.Prelude.{◌≡◌, length};
 ghost use Rattle.refusals.specs.After.{after};
 ghost use Rattle.report.specs.Report.{reported_at, line_at, reported_numbers};

@@ -1,4 +1,6 @@
 // The bits of a line from the left: the first problem met, or what the frame holds that they make.
+#![tactic(auto)]
+
 ghost use Rattle.std.specs.Prelude.{◌≡◌};
 ghost use Rattle.reading.specs.Scan.{scanned};
 ghost use Rattle.scanning.specs.Held.{held_in};

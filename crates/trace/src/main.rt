@@ -1,5 +1,7 @@
 // Reads a trace from standard input, at most 65,536 bytes of it, and writes the report over it to standard output.
 // What else there is to say goes to standard error.
+#![tactic(auto)]
+
 mod usage;
 
 use libc::{STDERR_FILENO, STDIN_FILENO, STDOUT_FILENO};

@@ -1,5 +1,7 @@
 // The frame of an identifier and a payload on the wire. What it is, and what is answered about it, is said in specs/; the code is in
 // crate frame.
+#![tactic(auto)]
+
 use refusals::Refusal;
 
 // An identifier: the form of the frames that it goes into, and its number. [4.1]

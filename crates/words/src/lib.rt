@@ -2,6 +2,8 @@
 //
 // A constant table is copied at each use: a caller that needs several entries takes the list once and lends it to word_in or
 // entry_in. For a single entry there are word and look_up.
+#![tactic(auto)]
+
 ghost use Rattle.std.specs.Prelude.{◌≡◌, get_or};
 ghost use Rattle.words.specs.Words.{word_of};
 ghost use Rattle.words.specs.Symbols.{symbol_at, symbol_of};
