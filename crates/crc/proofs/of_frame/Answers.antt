@@ -8,18 +8,11 @@ use Rattle.bits.specs.Rows.{bits}
 use Rattle.bits.proofs.Rows.{bits-low}
 use Rattle.crc.specs.Crc.{crc}
 use Rattle.crc.specs.Dlc.{data_bytes}
-use Rattle.crc.proofs.of_frame.Statement.{statement}
-use Rattle.crc.proofs.of_frame.Tie as tie
+use Rattle.crc.proofs.of_frame.Goals as goal
 
-of-requires : tie.Need-of-requires
-of-requires c κs = search rules
-
-returns : tie.Need-returns
+pub returns : goal.returns
 returns c =
-    let args = c.before.args in
+    let args = c.args in
     let dlc : args.header % 2 ^ 39 % 16 ≡ args.header % 16 = omega arith in
     c.of.ensures
     ∙ ap₂ (λ (l : List ℕ) (d : ℕ). crc (l ++ bits (8 * data_bytes d) args.field)) (bits-low 39 args.header) dlc
-
-pub of-frame-spec : {M : Type 1} → statement M
-of-frame-spec = tie.close (tie.spec of-requires returns)

@@ -8,12 +8,8 @@ use Rattle.bits.specs.Neighbours.{equal_neighbours}
 use Rattle.words.specs.Symbols.{symbol_at, symbol_of}
 use Rattle.words.specs.Lists.{entry_of, short_list}
 use Rattle.words.proofs.Lists.{places-passed}
-use Rattle.words.proofs.short_list.list.Statement.{statement}
-use Rattle.words.proofs.short_list.list.Tie as tie
+use Rattle.words.proofs.short_list.list.Goals as goal
 
-returns : tie.Need-returns
+pub returns : goal.returns
 unfolding bits equal_neighbours symbol_of short_list
 returns c = same-eq _ _ tt ∙ sym (places-passed (λ (nine place : ℕ). entry_of nine (symbol_at place)))
-
-pub list-spec : {M : Type 1} → statement M
-list-spec = tie.close (tie.spec returns)

@@ -6,8 +6,7 @@ use borrow.Author.Rules.{rules}
 use Rattle.bits.specs.Rows.{bits}
 use Rattle.crc.specs.Crc.{crc}
 use Rattle.crc.proofs.CrcFours.{crc-nothing, crc-short}
-use Rattle.crc.proofs.of_header.Statement.{statement}
-use Rattle.crc.proofs.of_header.Tie as tie
+use Rattle.crc.proofs.of_header.Goals as goal
 
 -- a register of 0, before any bit
 nothing : 0 ≡ crc [] * 2
@@ -17,17 +16,8 @@ nothing = ap (λ (x : ℕ). x * 2) (sym crc-nothing)
 before : (j k h : ℕ) → h < 2 ^ k → crc (bits (j + k) h) ≡ crc (bits k h)
 before j k h few = ap crc (sym (append-nil _)) ∙ crc-short j k h [] few ∙ ap crc (append-nil _)
 
-bring-down-requires : tie.Need-bring-down-requires
-bring-down-requires c κs = search rules
+pub returns-then-header-lt1048576 : goal.returns-then-header-lt1048576
+returns-then-header-lt1048576 c = c.bring_down.ensures [] nothing ∙ ap (λ (x : ℕ). x * 2) (sym (before 19 20 _ c.if-header-lt1048576.true))
 
-returns : tie.Need-returns
-returns c = c.bring-down.ensures [] nothing ∙ ap (λ (x : ℕ). x * 2) (sym (before 19 20 _ c.before.if1.true))
-
-bring-down-requires-2 : tie.Need-bring-down-requires-2
-bring-down-requires-2 c κs = search rules
-
-returns-2 : tie.Need-returns-2
-returns-2 c = c.bring-down2.ensures [] nothing ∙ ap (λ (x : ℕ). x * 2) (before 1 39 _ c.before.before.requires.1)
-
-pub of-header-spec : {M : Type 1} → statement M
-of-header-spec = tie.close (tie.spec bring-down-requires returns bring-down-requires-2 returns-2)
+pub returns : goal.returns
+returns c = c.bring_down-2.ensures [] nothing ∙ ap (λ (x : ℕ). x * 2) (before 1 39 _ c.requires.1)

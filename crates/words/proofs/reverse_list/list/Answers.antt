@@ -7,12 +7,8 @@ use Rattle.bits.specs.Rows.{bits}
 use Rattle.bits.specs.Neighbours.{equal_neighbours}
 use Rattle.words.specs.Lists.{reverse_list}
 use Rattle.words.proofs.Lists.{places-passed}
-use Rattle.words.proofs.reverse_list.list.Statement.{statement}
-use Rattle.words.proofs.reverse_list.list.Tie as tie
+use Rattle.words.proofs.reverse_list.list.Goals as goal
 
-returns : tie.Need-returns
+pub returns : goal.returns
 unfolding bits equal_neighbours reverse_list
 returns c = same-eq _ _ tt ∙ sym (places-passed (λ (nine place : ℕ). place))
-
-pub list-spec : {M : Type 1} → statement M
-list-spec = tie.close (tie.spec returns)

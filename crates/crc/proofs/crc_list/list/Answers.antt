@@ -3,12 +3,8 @@ use Rattle.bits.proofs.Same.{same-eq}
 use Rattle.bits.specs.Rows.{bits}
 use Rattle.crc.specs.Crc.{xor, divide, remainder, crc}
 use Rattle.crc.specs.CrcFours.{crc_list}
-use Rattle.crc.proofs.crc_list.list.Statement.{statement}
-use Rattle.crc.proofs.crc_list.list.Tie as tie
+use Rattle.crc.proofs.crc_list.list.Goals as goal
 
-returns : tie.Need-returns
+pub returns : goal.returns
 unfolding bits xor divide remainder crc crc_list
 returns c = same-eq _ _ tt
-
-pub list-spec : {M : Type 1} → statement M
-list-spec = tie.close (tie.spec returns)

@@ -4,12 +4,8 @@ use Rattle.bits.specs.Rows.{bits}
 use Rattle.bits.specs.Neighbours.{equal_neighbours}
 use Rattle.words.specs.Words.{words, word_of}
 use Rattle.words.specs.Lists.{word_list}
-use Rattle.words.proofs.word_list.list.Statement.{statement}
-use Rattle.words.proofs.word_list.list.Tie as tie
+use Rattle.words.proofs.word_list.list.Goals as goal
 
-returns : tie.Need-returns
+pub returns : goal.returns
 unfolding bits equal_neighbours words word_of word_list
 returns c = same-eq _ _ tt
-
-pub list-spec : {M : Type 1} → statement M
-list-spec = tie.close (tie.spec returns)
