@@ -16,8 +16,8 @@ use Rattle.crc.proofs.bring_down.Given as goal
 abbrev pub invariant-loop-left : goal.invariant-loop-left
 invariant-loop-left l =
     (l.left ≤ l.initial.left)
-    × ((l : List ℕ) → l.initial.register ≡ crc l * 2 →
-    (m : List ℕ) × (l.register ≡ crc m * 2) × (m ++ bits (4 * l.left) l.number ≡ l ++ bits (4 * l.initial.left) l.number))
+    × ((row : List ℕ) → l.initial.register ≡ crc row * 2 →
+    (m : List ℕ) × (l.register ≡ crc m * 2) × (m ++ bits (4 * l.left) l.number ≡ row ++ bits (4 * l.initial.left) l.number))
 
 abbrev pub decreases-loop-left : goal.decreases-loop-left
 decreases-loop-left l = l.left

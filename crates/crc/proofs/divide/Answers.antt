@@ -7,7 +7,7 @@ use lib.Bits.{bit_xor}
 use Rattle.crc.proofs.Division.{xor_is, xor_below}
 use Rattle.crc.proofs.CrcFours.{crc-behind}
 use Rattle.crc.proofs.divide.Goals as goal
-use Rattle.crc.proofs.divide.Goals.{After-way_told-1, Start}
+use Rattle.crc.proofs.divide.Goals.{Start}
 
 -- where the list is read
 within : (c : Start) → bit_xor (c.args.register / 4096) (c.args.number % 16) < 16
@@ -22,7 +22,7 @@ pub offset_bounds-list-out : goal.offset_bounds-list-out
 offset_bounds-list-out c = omega (arith, within (goal.at.offset_bounds-list-out c).Start)
 
 pub bounds-list-out : goal.bounds-list-out
-bounds-list-out c = within (goal.at.bounds-list-out c).After-way_told-1
+bounds-list-out c = within (goal.at.bounds-list-out c).Start
 
 pub returns : goal.returns
 returns c =
