@@ -12,7 +12,7 @@ use field::table::Row;
 use refusals::Refusal;
 
 // The payload as one number, or why the field is refused.
-#[derive(Drop)]
+#[derive(Clone, Copy)]
 pub(crate) enum Reading {
     Payload(u64),
     Refused(Refusal),

@@ -12,7 +12,7 @@ use refusals::Refusal;
 use words::word_list;
 
 // How many bytes a field has, and the number of its bits; or why there is none. [9.3]
-#[derive(Drop)]
+#[derive(Clone, Copy)]
 pub enum Coded {
     Field(usize, u64),
     Refused(Refusal),

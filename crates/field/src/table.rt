@@ -3,7 +3,7 @@ ghost use Rattle.std.specs.Prelude.{◌≡◌, get_or};
 ghost use Rattle.field.specs.Table.{row_of, rows};
 
 // What the size of a payload decides of its field. [3.7]
-#[derive(Drop)]
+#[derive(Clone, Copy)]
 pub struct Row {
     // How many bytes the field has, which is the DLC.
     pub bytes: usize,

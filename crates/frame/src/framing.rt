@@ -9,7 +9,7 @@ use refusals::Refusal;
 use wire::Identifier;
 
 // The parts, or why there are none.
-#[derive(Drop)]
+#[derive(Clone, Copy)]
 pub(crate) enum Framed {
     Frame(Parts),
     Refused(Refusal),

@@ -6,7 +6,7 @@ ghost use Rattle.frame.specs.Parts.{IsHeader};
 use wire::Identifier;
 
 // Its bits are the lowest of a number: three, and four for each of `fours`, so 19 or 39.
-#[derive(Drop)]
+#[derive(Clone, Copy)]
 pub(crate) struct Header {
     pub number: u64,
     pub fours: usize,

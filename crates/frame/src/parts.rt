@@ -1,7 +1,7 @@
 // A frame before it is stuffed: what its CRC and its line follow from.
 use crate::header::Header;
 
-#[derive(Drop)]
+#[derive(Clone, Copy)]
 pub(crate) struct Parts {
     // How many bytes the data field has.
     pub n: usize,

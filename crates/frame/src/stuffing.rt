@@ -9,7 +9,7 @@ use crate::fours;
 use crate::header::Header;
 
 // The four bits sent last, and how many stuff bits were among what was sent.
-#[derive(Drop)]
+#[derive(Clone, Copy)]
 pub(crate) struct Counted {
     pub last: u64,
     pub drawn: usize,

@@ -12,7 +12,7 @@ use crate::parts::Parts;
 use crate::{byte_list, fours, sent_list, stuffing};
 
 // Where the next bit goes, and the four bits that were sent before it.
-#[derive(Drop)]
+#[derive(Clone, Copy)]
 pub(crate) struct Spot {
     pub last: u64,
     pub at: usize,

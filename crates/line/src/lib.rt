@@ -15,7 +15,7 @@ use scanning::Held;
 use wire::Identifier;
 
 // What a line holds: an identifier and a payload, of which this is the length; or a refusal. [7.5]
-#[derive(Drop)]
+#[derive(Clone, Copy)]
 pub enum Line {
     Frame {
         length: usize,

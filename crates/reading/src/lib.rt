@@ -2,7 +2,7 @@
 #![tactic(auto)]
 
 // What a reading takes in the ACK slot. [12.18]
-#[derive(Drop)]
+#[derive(Clone, Copy)]
 pub enum AckSlot {
     // 0: somebody heard the frame.
     Acknowledged,
@@ -11,7 +11,7 @@ pub enum AckSlot {
 }
 
 // What a reading asks of a line beside the rules that hold for every line. [12.18]
-#[derive(Drop)]
+#[derive(Clone, Copy)]
 pub struct Reading {
     pub slot: AckSlot,
 }

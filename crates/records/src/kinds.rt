@@ -3,7 +3,7 @@ ghost use Rattle.std.specs.Prelude.{◌≡◌};
 ghost use Rattle.records.specs.Records.{kind_of};
 
 // What a kind byte says of the body: what it is, and how many bytes it has. [14.2]
-#[derive(Drop)]
+#[derive(Clone, Copy)]
 pub(crate) enum Kind {
     Payload(usize),
     Field(usize),

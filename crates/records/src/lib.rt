@@ -11,7 +11,7 @@ use refusals::Refusal;
 
 // What stands at an offset of a trace: a record, with the length of its body, which follows the kind byte; the trace's end; or a
 // refusal, which ends the reading. [14.1, 14.4, 14.6]
-#[derive(Drop)]
+#[derive(Clone, Copy)]
 pub enum Record {
     Payload(usize),
     Field(usize),

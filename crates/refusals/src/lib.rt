@@ -6,7 +6,7 @@ ghost use Rattle.refusals.specs.Table.{number_of, place_of};
 
 // Why a call is refused, in the order of document 01's table, then of document 02's requests as they came. A variant holds the place
 // where that varies: a bit of the line, the number of a word, an offset in a trace. [8.1, 8.2]
-#[derive(Drop)]
+#[derive(Clone, Copy)]
 pub enum Refusal {
     PayloadTooLong,
     RoomShort,
@@ -26,7 +26,7 @@ pub enum Refusal {
 }
 
 // A length, or a refusal. The buffer that a result goes to stays beside it. [7.3]
-#[derive(Drop)]
+#[derive(Clone, Copy)]
 pub enum Answer {
     Length(usize),
     Refused(Refusal),

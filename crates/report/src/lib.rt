@@ -16,7 +16,7 @@ pub const LINE_ROOM: usize = 96;
 
 // What the report says at an offset: a line of this length, and where the next record stands, which behind refusal 14 is the trace's
 // end; nothing, where the trace ends; or a refusal. [15.9]
-#[derive(Drop)]
+#[derive(Clone, Copy)]
 pub enum Reported {
     Line { length: usize, next: usize },
     End,

@@ -20,7 +20,7 @@ use seen::Step;
 use wire::Identifier;
 
 // What the frame of a line holds: an identifier and n data bytes, whose bits are the lowest of `field`; or a refusal. [12.1, 12.15]
-#[derive(Drop)]
+#[derive(Clone, Copy)]
 pub enum Held {
     Frame {
         n: usize,

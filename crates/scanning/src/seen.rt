@@ -2,7 +2,7 @@
 use refusals::Refusal;
 
 // A refusal takes the room of `stop` and `end` in a Step: they stand first because nothing behind a field asks for them.
-#[derive(Drop)]
+#[derive(Clone, Copy)]
 pub(crate) struct Seen {
     // Where reading stops in the present field: at its end, or at the line's where that comes first.
     pub stop: usize,
@@ -20,7 +20,7 @@ pub(crate) struct Seen {
 }
 
 // What is seen behind a bit, a field or the whole line; or the first problem met.
-#[derive(Drop)]
+#[derive(Clone, Copy)]
 pub(crate) enum Step {
     Next(Seen),
     Refused(Refusal),

@@ -5,7 +5,7 @@
 use refusals::Refusal;
 
 // An identifier: the form of the frames that it goes into, and its number. [4.1]
-#[derive(Drop)]
+#[derive(Clone, Copy)]
 pub enum Identifier {
     // Up to 2047, in 11 bits.
     Base(u32),
@@ -14,7 +14,7 @@ pub enum Identifier {
 }
 
 // The two bounds of a frame's length, the lower first, or a refusal. [7.4]
-#[derive(Drop)]
+#[derive(Clone, Copy)]
 pub enum Bounds {
     Between(usize, usize),
     Refused(Refusal),

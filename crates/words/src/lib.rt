@@ -14,7 +14,7 @@ pub mod short_list;
 pub mod word_list;
 
 // What nine bits stand for. [2.5]
-#[derive(Drop)]
+#[derive(Clone, Copy)]
 pub enum Symbol {
     Byte(u8),
     Escape,

@@ -2,12 +2,8 @@
 use mathlib.Core.Path.{refl}
 use Rattle.bits.specs.Rows.{number}
 use Rattle.field.specs.Table.{rows}
-use Rattle.field.proofs.table.rows.Statement.{statement}
-use Rattle.field.proofs.table.rows.Tie as tie
+use Rattle.field.proofs.table.rows.Goals as goal
 
-returns : tie.Need-returns
+pub returns : goal.returns
 unfolding number rows
 returns c = refl
-
-pub rows-spec : {M : Type 1} → statement M
-rows-spec = tie.close (tie.spec returns)
