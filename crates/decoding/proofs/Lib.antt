@@ -8,3 +8,4 @@ pub mod Accepted
 pub mod RoundTrip
 pub mod Lengths
 pub mod Small
+mod Leads

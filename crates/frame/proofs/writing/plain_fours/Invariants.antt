@@ -1,0 +1,22 @@
+-- `frame::writing::plain_fours` meets its contract. The invariant: what is left to write leads to the line that the whole leads to.
+-- Assumes nothing.
+use mathlib.Core.Path.{◌≡◌, refl, sym, ap, ◌∙◌}
+use mathlib.Core.List.{List}
+use Prim.Native.Nat.{ℕ, ◌+◌, ◌-◌, ◌*◌, ◌≤◌}
+use native.Mathlib.Omega.{arith}
+use lib.ListN.{length}
+use lib.Seq.{sets, length-sets}
+use Rattle.bits.specs.Rows.{bits}
+use Rattle.bits.specs.Fours.{four_at}
+use Rattle.bits.proofs.Filling.{sets-append}
+use Rattle.bits.proofs.Rows.{bits-length}
+use Rattle.bits.proofs.Fours.{fours-next, fours-none}
+use Rattle.frame.proofs.writing.plain_fours.Given as goal
+
+abbrev pub invariant-loop-left : goal.invariant-loop-left
+invariant-loop-left l =
+    (l.left ≤ l.initial.left) × (l.at + 4 * l.left ≡ l.initial.at + 4 * l.initial.left) × (length l.line ≡ length l.initial.line)
+    × (sets l.initial.line l.initial.at (bits (4 * l.initial.left) l.number) ≡ sets l.line l.at (bits (4 * l.left) l.number))
+
+abbrev pub decreases-loop-left : goal.decreases-loop-left
+decreases-loop-left l = l.left
