@@ -5,11 +5,7 @@ use native.Mathlib.Omega.{arith}
 use lib.Dec.{eqb, ltb}
 use borrow.Author.Rules.{rules}
 use Rattle.scanning.specs.Steps.{twice}
-use Rattle.scanning.proofs.field_end.twice.Statement.{statement}
-use Rattle.scanning.proofs.field_end.twice.Tie as tie
-
-add-result : tie.Need-overflow-add-result
-add-result c = search rules
+use Rattle.scanning.proofs.field_end.twice.Goals as goal
 
 of_two : (t : ℕ) → t < 4 → ltb ((t + 1) % 4) 2 ≡ eqb (t / 2 % 2) (t % 2)
 of_two zero h = refl
@@ -25,8 +21,5 @@ same number =
     let last : number % 2 ≡ number % 4 % 2 = omega arith in
     rw (before, last) (of_two (number % 4) (omega arith))
 
-returns : tie.Need-returns
+pub returns : goal.returns
 returns c = same _
-
-pub twice_spec : {M : Type 1} → statement M
-twice_spec = tie.close (tie.spec add-result returns)
