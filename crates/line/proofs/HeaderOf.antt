@@ -83,11 +83,11 @@ module _ {reading : Reading} {frame : List ℕ} (right : Right reading frame) wh
       )
 
   -- a header that has m bits more than that of the base form
-  header_of : (m ide : ℕ) (eleven more : List ℕ) (f : List ℕ) → data_start frame ≡ 19 + m → get_or frame 13 0 ≡ ide
+  header_of_lem : (m ide : ℕ) (eleven more : List ℕ) (f : List ℕ) → data_start frame ≡ 19 + m → get_or frame 13 0 ≡ ide
       → high_bits ≡ eleven → take m (drop 14 frame) ≡ more → drop (14 + m) (form (long_in frame) (dlc_in frame)) ≡ 0 ∷ f
       → frame ≡ header_of eleven ide more (bits 4 (dlc_in frame)) ++ drop (data_start frame) frame
   unfolding header_form
-  header_of m ide eleven more f width is high others must =
+  header_of_lem m ide eleven more f width is high others must =
       let n = dlc_in frame in
       let rest = drop (data_start frame) frame in
       let read : 19 + m ≤ length frame = omega (arith, long right, width) in
@@ -126,10 +126,10 @@ module _ {reading : Reading} {frame : List ℕ} (right : Right reading frame) wh
           let others : take 20 (drop 14 frame) ≡ long_part (bits 18 (number 0 both_bits))
           = take-add 18 2 (drop 14 frame)
           ∙ ap₂ ◌++◌ long-parts.1 (ap (take 2) (drop-drop 18 14 frame) ∙ two) in
-          header_of 20 1 (bits 11 (number 0 both_bits / 2 ^ 18)) (long_part (bits 18 (number 0 both_bits))) _ (ap header_width e)
+          header_of_lem 20 1 (bits 11 (number 0 both_bits / 2 ^ 18)) (long_part (bits 18 (number 0 both_bits))) _ (ap header_width e)
           (eqb-true (get_or frame 13 0) 1 e) long-parts.0 others (ap (drop 34) (must ∙ form-is true n))
       go false e =
           let must : form (long_in frame) n ≡ form false n = ap (λ (t : Bool). form t n) e in
           let other = eqb-false (get_or frame 13 0) 1 e in
-          header_of 0 0 (bits 11 (number 0 high_bits)) [] _ (ap header_width e) (omega (arith, bit, other))
+          header_of_lem 0 0 (bits 11 (number 0 high_bits)) [] _ (ap header_width e) (omega (arith, bit, other))
           (number-part right 1 11 (omega (arith, enough right))) refl (ap (drop 14) (must ∙ form-is false n))
