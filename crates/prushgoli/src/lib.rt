@@ -1,5 +1,4 @@
-// The library as C calls it: each call under its C name, its answer packed into one number. A slice passes as pointer and length, an
-// identifier as one number.
+// The calls for C, as prushgoli_c exports them: each under its C name, its answer packed into one number, an identifier as one number.
 #![tactic(auto)]
 
 ghost use Rattle.std.specs.Prelude.{◌≡◌, length};
@@ -19,8 +18,7 @@ mod packing;
 use reading::Reading;
 
 // Codes a payload into a field.
-#[unsafe(no_mangle)]
-pub extern "C" fn prushgoli_encode(payload: &[u8], field: &mut [u8]) -> u64
+pub fn prushgoli_encode(payload: &[u8], field: &mut [u8]) -> u64
     ensures answer { result ≡ pack (answer_numbers (encode_answer payload.now (length field.old))) }
     ensures memory { field.new ≡ after (answer_numbers (encode_answer payload.now (length field.old))) (field_of payload.now) field.old }
 {
@@ -28,8 +26,7 @@ pub extern "C" fn prushgoli_encode(payload: &[u8], field: &mut [u8]) -> u64
 }
 
 // Decodes a field into its payload.
-#[unsafe(no_mangle)]
-pub extern "C" fn prushgoli_decode(field: &[u8], payload: &mut [u8]) -> u64
+pub fn prushgoli_decode(field: &[u8], payload: &mut [u8]) -> u64
     ensures answer { result ≡ pack (answer_numbers (decode_answer field.now (length payload.old))) }
     ensures memory { payload.new ≡ after (answer_numbers (decode_answer field.now (length payload.old))) (payload_of field.now) payload.old }
 {
@@ -37,24 +34,21 @@ pub extern "C" fn prushgoli_decode(field: &[u8], payload: &mut [u8]) -> u64
 }
 
 // The length of the frame of an identifier and a payload.
-#[unsafe(no_mangle)]
-pub extern "C" fn prushgoli_frame_length(identifier: u32, payload: &[u8]) -> u64
+pub fn prushgoli_frame_length(identifier: u32, payload: &[u8]) -> u64
     ensures { result ≡ pack (answer_numbers (length_answer (identifier_of identifier) payload.now)) }
 {
     packing::answer(frame::frame_length(identifier::of(identifier), payload))
 }
 
 // The bounds of the length of every frame of an identifier and a size.
-#[unsafe(no_mangle)]
-pub extern "C" fn prushgoli_frame_bounds(identifier: u32, size: usize) -> u64
+pub fn prushgoli_frame_bounds(identifier: u32, size: usize) -> u64
     ensures { result ≡ pack (bounds_numbers (bounds_answer (identifier_of identifier) size)) }
 {
     packing::bounds(frame::frame_bounds(identifier::of(identifier), size))
 }
 
 // Makes the line of the frame of an identifier and a payload.
-#[unsafe(no_mangle)]
-pub extern "C" fn prushgoli_make_frame(identifier: u32, payload: &[u8], line: &mut [u8]) -> u64
+pub fn prushgoli_make_frame(identifier: u32, payload: &[u8], line: &mut [u8]) -> u64
     ensures answer { result ≡ pack (answer_numbers (make_answer (identifier_of identifier) payload.now (length line.old))) }
     ensures memory { line.new ≡ after (answer_numbers (make_answer (identifier_of identifier) payload.now (length line.old))) (payload_line (identifier_of identifier) payload.now) line.old }
 {
@@ -62,8 +56,7 @@ pub extern "C" fn prushgoli_make_frame(identifier: u32, payload: &[u8], line: &m
 }
 
 // Reads a line from a live bus: the identifier and the payload of its frame.
-#[unsafe(no_mangle)]
-pub extern "C" fn prushgoli_read_line(line: &[u8], payload: &mut [u8]) -> u64
+pub fn prushgoli_read_line(line: &[u8], payload: &mut [u8]) -> u64
     ensures answer { result ≡ pack (line_numbers (read_answer acknowledged line.now (length payload.old))) }
     ensures memory { payload.new ≡ after (line_numbers (read_answer acknowledged line.now (length payload.old))) (payload_in acknowledged line.now) payload.old }
 {
@@ -71,8 +64,7 @@ pub extern "C" fn prushgoli_read_line(line: &[u8], payload: &mut [u8]) -> u64
 }
 
 // Reads a line of our own maker, in whose ACK slot 0 or 1 may stand.
-#[unsafe(no_mangle)]
-pub extern "C" fn prushgoli_read_own_line(line: &[u8], payload: &mut [u8]) -> u64
+pub fn prushgoli_read_own_line(line: &[u8], payload: &mut [u8]) -> u64
     ensures answer { result ≡ pack (line_numbers (read_answer own line.now (length payload.old))) }
     ensures memory { payload.new ≡ after (line_numbers (read_answer own line.now (length payload.old))) (payload_in own line.now) payload.old }
 {
