@@ -1,8 +1,6 @@
 // What the program says where it is started with an argument.
-use libc::STDERR_FILENO;
-
-pub(crate) fn write() {
-    let text = b"\
+pub(crate) fn write(rt: &impl Eprint) {
+    let text = "\
 usage: prushgoli-trace <FILE        (in the sources: make run TRACE=FILE)
 
 Reads a trace from standard input, at most 65,536 bytes of it, and writes a
@@ -17,5 +15,5 @@ byte, and the report ends. All else that is to be said goes to standard error.
 Bytes in hex go through prushgoli-hex first:
 echo 11 F0 | prushgoli-hex | prushgoli-trace   writes   1 E 0 0 EA55
 ";
-    io::write_all(STDERR_FILENO, text);
+    let _ = rt.eprint(text);
 }
