@@ -8,7 +8,7 @@ use Prim.Native.Nat.{ℕ, zero, suc, ◌+◌, ◌-◌, ◌<◌}
 use native.Mathlib.Omega.{arith}
 use lib.Dec.{lit<}
 use lib.ListN.{length}
-use Rattle.bits.specs.Rows.{bits, number}
+use Rattle.bits.specs.Rows.{bits}
 use Rattle.bits.specs.declared.Run.{Run}
 use Rattle.bits.specs.Stuffing.{nothing_sent}
 use Rattle.reading.specs.Scan.{Verdict, right, onward, scanned}

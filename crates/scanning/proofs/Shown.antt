@@ -14,7 +14,6 @@ use Rattle.reading.specs.Scan.{long_in, header_width, data_start, dlc_in, crc_st
 use Rattle.reading.specs.declared.Reading.{Reading}
 use Rattle.reading.proofs.Partial.{width-least, start-least}
 use Rattle.reading.proofs.Verdicts.{dlc-taken, nothing-shown}
-use Rattle.scanning.specs.Steps.{least}
 use Rattle.scanning.proofs.Positions.{start_of, end_of, form-from, data-from, ending-from, ide-end, header-end, crc-end, slot-end, last-from}
 use Rattle.scanning.proofs.Stages.{Stage, first_bit, ide, before-dlc, dlc, data-bits, crc-bits, ack-slot, ending, stage}
 use Rattle.scanning.proofs.Known.{crc-known, Known, early, in-header, all_known, how-known, early-or-known}

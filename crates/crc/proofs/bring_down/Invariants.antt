@@ -1,16 +1,10 @@
 -- `crc::bring_down` meets its contract. The invariant: the register is the CRC of the front and of the bits brought down, so
 -- that with those that are left it leads to the CRC of all. Assumes nothing.
-use mathlib.Core.Path.{◌≡◌, refl, sym, ap, ◌∙◌}
-use mathlib.Core.List.{List, ◌++◌, append_assoc, append-nil}
-use Prim.Native.Nat.{ℕ, ◌-◌, ◌*◌, ◌≤◌, ◌<◌}
-use native.Mathlib.Nat.{mod-lt}
-use native.Mathlib.Omega.{arith}
-use lib.Dec.{lit<}
+use mathlib.Core.Path.{◌≡◌}
+use mathlib.Core.List.{List, ◌++◌}
+use Prim.Native.Nat.{ℕ, ◌*◌, ◌≤◌}
 use Rattle.bits.specs.Rows.{bits}
 use Rattle.crc.specs.Crc.{crc}
-use Rattle.bits.specs.Fours.{four_at}
-use Rattle.crc.proofs.CrcFours.{crc-next-four}
-use Rattle.bits.proofs.Fours.{fours-next, fours-none}
 use Rattle.crc.proofs.bring_down.Given as goal
 
 abbrev pub invariant-loop-left : goal.invariant-loop-left

@@ -2,7 +2,6 @@
 use mathlib.Core.Path.{◌≡◌, sym, ap, ◌∙◌}
 use mathlib.Core.List.{[], append-nil}
 use Prim.Native.Nat.{ℕ, ◌+◌, ◌*◌, ◌^◌, ◌<◌}
-use borrow.Author.Rules.{rules}
 use Rattle.bits.specs.Rows.{bits}
 use Rattle.crc.specs.Crc.{crc}
 use Rattle.crc.proofs.CrcFours.{crc-nothing, crc-short}

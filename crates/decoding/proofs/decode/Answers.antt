@@ -1,7 +1,6 @@
 -- `decoding::decode` meets its contract: a length that no field has is refused, and the empty field has the empty payload. Assumes
 -- nothing.
 use mathlib.Core.Path.{refl, sym}
-use borrow.Author.Rules.{rules}
 use Rattle.decoding.proofs.DecodeAnswers.{decode-empty, decode-one, decode-long}
 use Rattle.decoding.proofs.decode.Goals as goal
 

@@ -1,6 +1,5 @@
 -- `decoding::decode_number` meets its contract: the empty field has no bits, and the empty payload. Assumes nothing.
 use mathlib.Core.Path.{refl, sym}
-use borrow.Author.Rules.{rules}
 use Rattle.decoding.proofs.NumberAnswers.{empty-wide, empty-fits}
 use Rattle.decoding.proofs.decode_number.Goals as goal
 

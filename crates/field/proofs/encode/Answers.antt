@@ -1,7 +1,6 @@
 -- `field::encode` meets its contract: a payload that is too long is refused, and the empty payload has the empty field. Assumes
 -- nothing.
 use mathlib.Core.Path.{refl, sym}
-use borrow.Author.Rules.{rules}
 use Rattle.field.proofs.EncodeAnswers.{encode-long, encode-empty}
 use Rattle.field.proofs.encode.Goals as goal
 

@@ -1,6 +1,5 @@
 -- `frame::frame_length` meets its contract: the parts of the frame decide the answer, or their refusal. Assumes nothing.
 use mathlib.Core.Path.{◌≡◌, sym, ap, ◌∙◌, subst}
-use borrow.Author.Rules.{rules}
 use lib.ListN.{length}
 use Rattle.refusals.specs.declared.Answer.TheVariants.{Length}
 use Rattle.wire.proofs.FrameAnswers.{length-accepts}

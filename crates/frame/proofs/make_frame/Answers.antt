@@ -4,7 +4,6 @@ use mathlib.Core.Path.{◌≡◌, refl, sym, ap, ◌∙◌, subst}
 use mathlib.Core.List.{List, ◌++◌}
 use Prim.Native.Nat.{ℕ, ◌≤◌, ◌<◌}
 use native.Mathlib.Nat.{le_trans}
-use borrow.Author.Rules.{rules}
 use lib.ListN.{length, drop}
 use Rattle.refusals.specs.declared.Answer.TheVariants.{Length}
 use Rattle.refusals.proofs.After.{refused-keeps}

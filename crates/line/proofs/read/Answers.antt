@@ -3,7 +3,6 @@ use mathlib.Core.Path.{sym, ap, ◌∙◌}
 use mathlib.Core.List.{List}
 use Prim.Native.Nat.{ℕ}
 use lib.ListN.{length}
-use borrow.Author.Rules.{rules}
 use Rattle.refusals.specs.After.{after}
 use Rattle.refusals.proofs.After.{refused-keeps}
 use Rattle.line.specs.Read.{payload_in, line_numbers}

@@ -1,6 +1,5 @@
 -- `prushgoli::prushgoli_frame_bounds` meets its contract: it passes on what `frame::frame_bounds` answered. Assumes nothing.
 use mathlib.Core.Path.{ap, ◌∙◌}
-use borrow.Author.Rules.{rules}
 use Rattle.wire.specs.declared.Identifier.{Identifier}
 use Rattle.wire.specs.Answers.{bounds_answer, bounds_numbers}
 use Rattle.wire.specs.declared.Bounds.{Bounds}

@@ -1,6 +1,5 @@
 -- `prushgoli::prushgoli_frame_length` meets its contract: it passes on what `frame::frame_length` answered. Assumes nothing.
 use mathlib.Core.Path.{ap, ◌∙◌}
-use borrow.Author.Rules.{rules}
 use Rattle.refusals.specs.Table.{answer_numbers}
 use Rattle.refusals.specs.declared.Answer.{Answer}
 use Rattle.wire.specs.declared.Identifier.{Identifier}

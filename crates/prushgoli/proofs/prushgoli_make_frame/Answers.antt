@@ -1,5 +1,4 @@
 -- `prushgoli::prushgoli_make_frame` meets its contract: it passes on what `frame::make_frame` answered and left. Assumes nothing.
-use borrow.Author.Rules.{rules}
 use Rattle.refusals.specs.After.{after}
 use Rattle.refusals.specs.Table.{answer_numbers}
 use Rattle.refusals.specs.declared.Answer.{Answer}

@@ -1,5 +1,4 @@
 -- `prushgoli::read` meets its contract: it passes on what `line::read` answered and left. Assumes nothing.
-use borrow.Author.Rules.{rules}
 use Rattle.refusals.specs.After.{after}
 use Rattle.line.specs.Read.{payload_in, line_numbers}
 use Rattle.line.specs.declared.Line.{Line}

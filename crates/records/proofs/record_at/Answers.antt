@@ -2,7 +2,6 @@
 use mathlib.Core.Path.{◌≡◌, sym, ap₂, ◌∙◌}
 use Prim.Native.Nat.{ℕ, ◌-◌}
 use native.Mathlib.Omega.{arith}
-use borrow.Author.Rules.{rules}
 use Rattle.records.specs.Records.{record_of, record_at}
 use Rattle.records.specs.declared.kinds.Kind.{Kind}
 use Rattle.records.proofs.Records.{record-end, record-begun}

@@ -2,7 +2,6 @@
 use mathlib.Core.Path.{◌≡◌, refl, sym, ap, subst}
 use mathlib.Core.List.{List}
 use Prim.Native.Nat.{ℕ, ◌%◌}
-use borrow.Author.Rules.{rules}
 use Rattle.wire.specs.declared.Identifier.{Identifier}
 use Rattle.reading.specs.Scan.{Scanned, whole, scanned}
 use Rattle.scanning.specs.Held.{held_in}

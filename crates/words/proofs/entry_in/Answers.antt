@@ -1,5 +1,4 @@
 -- `words::entry_in` meets its contract: at each return the test that led there decides. Assumes nothing.
-use borrow.Author.Rules.{rules}
 use borrow.Author.Tests.{lt-ltb, le-ltb}
 use Rattle.words.proofs.entry_in.Goals as goal
 

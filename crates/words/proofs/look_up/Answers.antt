@@ -1,6 +1,5 @@
 -- `words::look_up` meets its contract: what the reverse list holds at nine. Assumes nothing.
 use mathlib.Core.Path.{◌∙◌}
-use borrow.Author.Rules.{rules}
 use Rattle.words.specs.Symbols.{symbol_of}
 use Rattle.words.proofs.Lists.{reverse-list-at}
 use Rattle.words.proofs.look_up.Goals as goal

@@ -1,5 +1,4 @@
 -- `words::symbol_at` meets its contract: at each return the tests that led there decide the case of `symbol_at`. Assumes nothing.
-use borrow.Author.Rules.{rules}
 use borrow.Author.Tests.{eq-eqb, ne_eqb, lt-ltb, le-ltb}
 use Rattle.words.proofs.symbol_at.Goals as goal
 

@@ -1,6 +1,5 @@
 -- `words::symbol_in` meets its contract. Assumes nothing.
 use mathlib.Core.Path.{◌∙◌, ap}
-use borrow.Author.Rules.{rules}
 use Rattle.words.specs.Symbols.{symbol_at}
 use Rattle.words.proofs.symbol_in.Goals as goal
 

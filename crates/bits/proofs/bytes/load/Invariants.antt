@@ -1,18 +1,10 @@
 -- `bits::bytes::load` meets its contract. The invariant: the bytes that are left, behind the number so far, give the whole number;
 -- and the number so far has i bytes. Assumes nothing.
-use mathlib.Core.Path.{◌≡◌, refl, sym, ◌∙◌}
-use Prim.Native.Nat.{ℕ, suc, ◌-◌, ◌^◌, ◌≤◌, ◌<◌}
-use native.Mathlib.Nat.{pow-le-pow_right}
-use native.Mathlib.Numerals.{add-one}
-use native.Mathlib.Omega.{arith}
-use lib.Dec.{lit<}
-use lib.ListN.{length, drop, get_or}
-use lib.Pow.{pow-add}
-use lib.Seq.{drop-cons, drop-length}
+use mathlib.Core.Path.{◌≡◌}
+use Prim.Native.Nat.{◌-◌, ◌^◌, ◌≤◌, ◌<◌}
+use lib.ListN.{length, drop}
 use Rattle.bits.specs.Rows.{number}
 use Rattle.bits.specs.Packing.{unpacked}
-use Rattle.bits.proofs.Packing.{number-unpacked}
-use Rattle.bits.proofs.Loading.{load-other, load-long, load-all}
 use Rattle.bits.proofs.bytes.load.Given as goal
 
 abbrev pub invariant-loop-i : goal.invariant-loop-i

@@ -1,17 +1,11 @@
 -- `bits::bytes::store` meets its contract. The invariant: what is written, with the bytes that are left, makes the whole result.
 -- Assumes nothing.
-use mathlib.Core.Path.{◌≡◌, refl, sym, ap, ◌∙◌}
-use mathlib.Core.List.{List, ◌++◌}
-use Prim.Native.Nat.{ℕ, ◌+◌, ◌*◌, ◌-◌, ◌≤◌}
-use native.Mathlib.Nat.{sub-zero}
-use native.Mathlib.Omega.{arith}
-use borrow.Author.Rules.{rules}
-use lib.ListN.{length, take, drop, length-set, take-append-drop}
+use mathlib.Core.Path.{◌≡◌}
+use mathlib.Core.List.{◌++◌}
+use Prim.Native.Nat.{◌*◌, ◌-◌, ◌≤◌}
+use lib.ListN.{length, take, drop}
 use Rattle.bits.specs.Rows.{bits}
 use Rattle.bits.specs.Packing.{packed}
-use Rattle.bits.proofs.Packing.{packed-next}
-use Rattle.bits.proofs.Loading.{store-short, store_long, store-few}
-use Rattle.bits.proofs.Filling.{filled_next}
 use Rattle.bits.proofs.bytes.store.Given as goal
 
 abbrev pub invariant-loop-i : goal.invariant-loop-i

@@ -2,7 +2,6 @@
 -- Assumes nothing.
 use mathlib.Core.Path.{refl, sym, ◌∙◌}
 use native.Mathlib.Omega.{arith}
-use borrow.Author.Rules.{rules}
 use Rattle.decoding.proofs.NumberAnswers.{number_fits, number-wide, wide, narrow}
 use Rattle.decoding.proofs.by_size.fitting.Goals as goal
 

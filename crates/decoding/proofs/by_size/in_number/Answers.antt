@@ -1,9 +1,7 @@
 -- `decoding::by_size::in_number` meets its contract: in each case the field has as many bytes as the number says, and in no other is
 -- there a field. Assumes nothing.
 use mathlib.Core.Path.{◌≡◌, refl, sym}
-use Prim.Native.Nat.{ℕ, ◌+◌, ◌≤◌, ◌<◌}
 use native.Mathlib.Omega.{arith}
-use borrow.Author.Rules.{rules}
 use Rattle.decoding.proofs.NumberAnswers.{number-none}
 use Rattle.decoding.proofs.by_size.in_number.Goals as goal
 

@@ -15,7 +15,6 @@ use Rattle.field.proofs.TableRows.{row_at}
 use Rattle.decoding.specs.Decode.{decode_answer, payload_of}
 use Rattle.decoding.specs.Reading.{Says}
 use Rattle.decoding.specs.declared.reading.Reading.{Reading}
-use Rattle.decoding.specs.declared.reading.Reading.TheVariants.{Payload}
 use Rattle.decoding.proofs.FieldParts.{payload-below, payload-length}
 use Rattle.decoding.proofs.Accepted.{accepted}
 use Rattle.decoding.proofs.by_size.sized.Goals as goal

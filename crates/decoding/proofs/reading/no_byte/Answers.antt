@@ -1,5 +1,4 @@
 -- `decoding::reading::no_byte` meets its contract: the test that led to a return decides. Assumes nothing.
-use borrow.Author.Rules.{rules}
 use Rattle.decoding.proofs.reading.no_byte.Goals as goal
 
 pub returns-then-is_escape : goal.returns-then-is_escape

@@ -1,7 +1,6 @@
 -- `field::encoding::code` meets its contract: a payload that is too long is refused, and the empty payload has no bytes. Assumes
 -- nothing.
 use mathlib.Core.Path.{sym}
-use borrow.Author.Rules.{rules}
 use Rattle.field.proofs.Coded.{coded-long, coded-empty}
 use Rattle.field.proofs.encoding.code.Goals as goal
 

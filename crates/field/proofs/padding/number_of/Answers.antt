@@ -1,7 +1,6 @@
 -- `field::padding::number_of` meets its contract. Assumes nothing.
 use mathlib.Core.Path.{sym, ◌∙◌}
 use native.Mathlib.Omega.{arith}
-use borrow.Author.Rules.{rules}
 use Rattle.field.proofs.PaddingBits.{padding-number, padding_number-is, padding_number-no-bit, padding_number-long}
 use Rattle.field.proofs.padding.number_of.Goals as goal
 

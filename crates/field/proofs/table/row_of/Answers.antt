@@ -3,7 +3,6 @@ use mathlib.Core.Path.{sym, ◌∙◌}
 use Prim.Native.Nat.{◌<◌}
 use native.Mathlib.Omega.{arith}
 use lib.Dec.{lit<}
-use borrow.Author.Rules.{rules}
 use Rattle.field.specs.Table.{row_of}
 use Rattle.field.proofs.TableRows.{row_at, row-above}
 use Rattle.field.proofs.table.row_of.Goals as goal

@@ -1,6 +1,5 @@
 -- `frame::form::is_refused` meets its contract: the form tells the greatest number. Assumes nothing.
 use mathlib.Core.Path.{sym, ap}
-use borrow.Author.Rules.{rules}
 use lib.Dec.{ltb}
 use Rattle.wire.specs.declared.Identifier.{Identifier}
 use Rattle.wire.specs.Identifier.{number_in, greatest}

@@ -2,7 +2,6 @@
 use mathlib.Core.Path.{sym, ap, ◌∙◌}
 use Prim.Native.Nat.{◌≤◌}
 use native.Mathlib.Omega.{arith}
-use borrow.Author.Rules.{rules}
 use Rattle.bits.proofs.Below.{below_at}
 use Rattle.refusals.specs.declared.Answer.TheVariants.{Refused}
 use Rattle.field.proofs.Coded.{IsField, coded-field, coded-refused}

@@ -1,6 +1,5 @@
 -- `frame::stuffing::of_header` meets its contract: what follows the bits behind a header's first three follows the header. Assumes nothing.
 use mathlib.Core.Path.{refl, sym}
-use borrow.Author.Rules.{rules}
 use Rattle.frame.proofs.Quiet.{header-counts}
 use Rattle.frame.proofs.stuffing.of_header.Goals as goal
 

@@ -1,7 +1,6 @@
 -- `frame::stuffing::start` meets its contract: a header's first three bits start with 0. Assumes nothing.
 use mathlib.Core.Path.{refl}
 use native.Mathlib.Omega.{arith}
-use borrow.Author.Rules.{rules}
 use Rattle.frame.proofs.Quiet.{header-first}
 use Rattle.frame.proofs.stuffing.start.Goals as goal
 

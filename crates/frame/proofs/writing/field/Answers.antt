@@ -1,5 +1,4 @@
 -- `frame::writing::field` meets its contract: where no stuff bit is drawn the bits go out as they are. Assumes nothing.
-use borrow.Author.Rules.{rules}
 use Rattle.frame.proofs.Written.{written-field}
 use Rattle.frame.proofs.writing.field.Goals as goal
 

@@ -1,10 +1,9 @@
 -- `frame::writing::four` meets its contract: the list tells whether a stuff bit goes out too. Assumes nothing.
 use Prim.Native.Nat.{◌+◌, ◌≤◌, ◌/◌}
 use native.Mathlib.Omega.{arith}
-use borrow.Author.Rules.{rules}
 use lib.ListN.{length, length-set}
 use Rattle.frame.proofs.FourBits.{sent-length}
-use Rattle.frame.proofs.Written.{written-four, written-five, written-length}
+use Rattle.frame.proofs.Written.{written-four, written-five}
 use Rattle.frame.proofs.writing.four.Goals as goal
 use Rattle.frame.proofs.writing.four.Goals.{After-sent-sent}
 

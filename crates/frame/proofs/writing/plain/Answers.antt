@@ -1,11 +1,10 @@
 -- `frame::writing::plain` meets its contract. The invariant: what is left to write leads to the line that the whole leads to.
 -- Assumes nothing.
 use mathlib.Core.Path.{◌≡◌, refl, sym, ◌∙◌}
-use Prim.Native.Nat.{◌+◌, ◌≤◌, ◌<◌}
+use Prim.Native.Nat.{◌<◌}
 use native.Mathlib.Numerals.{add-one}
 use native.Mathlib.Omega.{arith}
-use lib.ListN.{length, length-set}
-use lib.Seq.{sets}
+use lib.ListN.{length-set}
 use Rattle.bits.specs.Rows.{bits}
 use Rattle.bits.proofs.Rows.{bits-next}
 use Rattle.frame.proofs.writing.plain.Goals as goal

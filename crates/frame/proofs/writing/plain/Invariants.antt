@@ -1,13 +1,10 @@
 -- `frame::writing::plain` meets its contract. The invariant: what is left to write leads to the line that the whole leads to.
 -- Assumes nothing.
-use mathlib.Core.Path.{◌≡◌, refl, sym, ◌∙◌}
-use Prim.Native.Nat.{◌+◌, ◌≤◌, ◌<◌}
-use native.Mathlib.Numerals.{add-one}
-use native.Mathlib.Omega.{arith}
-use lib.ListN.{length, length-set}
+use mathlib.Core.Path.{◌≡◌}
+use Prim.Native.Nat.{◌+◌, ◌≤◌}
+use lib.ListN.{length}
 use lib.Seq.{sets}
 use Rattle.bits.specs.Rows.{bits}
-use Rattle.bits.proofs.Rows.{bits-next}
 use Rattle.frame.proofs.writing.plain.Given as goal
 
 abbrev pub invariant-loop-left : goal.invariant-loop-left

@@ -1,16 +1,10 @@
 -- `frame::writing::plain_fours` meets its contract. The invariant: what is left to write leads to the line that the whole leads to.
 -- Assumes nothing.
-use mathlib.Core.Path.{◌≡◌, refl, sym, ap, ◌∙◌}
-use mathlib.Core.List.{List}
-use Prim.Native.Nat.{ℕ, ◌+◌, ◌-◌, ◌*◌, ◌≤◌}
-use native.Mathlib.Omega.{arith}
+use mathlib.Core.Path.{◌≡◌}
+use Prim.Native.Nat.{◌+◌, ◌*◌, ◌≤◌}
 use lib.ListN.{length}
-use lib.Seq.{sets, length-sets}
+use lib.Seq.{sets}
 use Rattle.bits.specs.Rows.{bits}
-use Rattle.bits.specs.Fours.{four_at}
-use Rattle.bits.proofs.Filling.{sets-append}
-use Rattle.bits.proofs.Rows.{bits-length}
-use Rattle.bits.proofs.Fours.{fours-next, fours-none}
 use Rattle.frame.proofs.writing.plain_fours.Given as goal
 
 abbrev pub invariant-loop-left : goal.invariant-loop-left

@@ -1,12 +1,11 @@
 -- `frame::writing::stuffed` meets its contract. The invariant: what is left to send leads to the line, the run and the place that
 -- the whole leads to. Assumes nothing.
-use mathlib.Core.Path.{◌≡◌, refl, sym, ap, ◌∙◌}
+use mathlib.Core.Path.{refl, sym, ap, ◌∙◌}
 use mathlib.Core.List.{List}
-use Prim.Native.Nat.{ℕ, ◌+◌, ◌-◌, ◌*◌, ◌≤◌, ◌<◌}
+use Prim.Native.Nat.{ℕ}
 use native.Mathlib.Omega.{arith}
 use lib.ListN.{length, length-append}
 use lib.Seq.{sets}
-use Rattle.bits.specs.Rows.{bits}
 use Rattle.bits.specs.Stuffing.{stuffed, run_after_row}
 use Rattle.bits.proofs.Fours.{fours-none}
 use Rattle.frame.specs.Fours.{run_of}

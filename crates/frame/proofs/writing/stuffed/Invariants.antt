@@ -1,17 +1,12 @@
 -- `frame::writing::stuffed` meets its contract. The invariant: what is left to send leads to the line, the run and the place that
 -- the whole leads to. Assumes nothing.
-use mathlib.Core.Path.{◌≡◌, refl, sym, ap, ◌∙◌}
-use mathlib.Core.List.{List}
-use Prim.Native.Nat.{ℕ, ◌+◌, ◌-◌, ◌*◌, ◌≤◌, ◌<◌}
-use native.Mathlib.Omega.{arith}
-use lib.ListN.{length, length-append}
+use mathlib.Core.Path.{◌≡◌}
+use Prim.Native.Nat.{◌+◌, ◌*◌, ◌≤◌, ◌<◌}
+use lib.ListN.{length}
 use lib.Seq.{sets}
 use Rattle.bits.specs.Rows.{bits}
 use Rattle.bits.specs.Stuffing.{stuffed, run_after_row}
-use Rattle.bits.proofs.Fours.{fours-none}
 use Rattle.frame.specs.Fours.{run_of}
-use Rattle.frame.proofs.FourBits.{sent-fours}
-use Rattle.frame.proofs.Written.{written-length, written_next}
 use Rattle.frame.proofs.writing.stuffed.Given as goal
 
 abbrev pub invariant-loop-left : goal.invariant-loop-left

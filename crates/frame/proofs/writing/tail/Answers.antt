@@ -1,6 +1,5 @@
 -- `frame::writing::tail` meets its contract: the CRC with its stuff bits, and what is never stuffed. Assumes nothing.
 use native.Mathlib.Omega.{arith}
-use borrow.Author.Rules.{rules}
 use Rattle.frame.specs.Fours.{run_of}
 use Rattle.frame.proofs.Written.{tail-room, written-length, written-tail}
 use Rattle.frame.proofs.writing.tail.Goals as goal

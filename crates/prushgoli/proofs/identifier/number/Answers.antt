@@ -2,7 +2,6 @@
 use mathlib.Core.Path.{◌≡◌, sym, ap, subst}
 use Prim.Native.Nat.{◌^◌, ◌<◌}
 use native.Mathlib.Omega.{arith}
-use borrow.Author.Rules.{rules}
 use Rattle.wire.specs.declared.Identifier.{Identifier}
 use Rattle.wire.specs.Identifier.{number_for_c}
 use Rattle.prushgoli.proofs.identifier.number.Goals as goal

@@ -1,7 +1,6 @@
 -- `prushgoli::packing::answer` meets its contract. Assumes nothing.
 use mathlib.Core.Path.{◌≡◌, sym, ap, ◌∙◌, subst}
 use Prim.Native.Nat.{◌^◌, ◌<◌}
-use borrow.Author.Rules.{rules}
 use Rattle.refusals.specs.Table.{answer_numbers}
 use Rattle.refusals.specs.declared.Answer.{Answer}
 use Rattle.prushgoli.specs.Packing.{pack}

@@ -2,7 +2,6 @@
 use mathlib.Core.Path.{◌≡◌, sym, ap, ◌∙◌, subst}
 use Prim.Native.Nat.{◌^◌, ◌<◌}
 use native.Mathlib.Omega.{arith}
-use borrow.Author.Rules.{rules}
 use Rattle.wire.specs.Answers.{bounds_numbers}
 use Rattle.wire.specs.declared.Bounds.{Bounds}
 use Rattle.prushgoli.specs.Packing.{pack}

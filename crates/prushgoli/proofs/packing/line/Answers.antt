@@ -1,7 +1,6 @@
 -- `prushgoli::packing::line` meets its contract. Assumes nothing.
 use mathlib.Core.Path.{◌≡◌, sym, ap, ◌∙◌, subst}
 use Prim.Native.Nat.{ℕ, ◌+◌, ◌*◌, ◌^◌, ◌<◌}
-use borrow.Author.Rules.{rules}
 use Rattle.line.specs.Read.{line_numbers}
 use Rattle.line.specs.declared.Line.{Line}
 use Rattle.prushgoli.specs.Packing.{pack}

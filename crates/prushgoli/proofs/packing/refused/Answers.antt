@@ -1,6 +1,5 @@
 -- `prushgoli::packing::refused` meets its contract. Assumes nothing.
 use native.Mathlib.Omega.{arith}
-use borrow.Author.Rules.{rules}
 use Rattle.refusals.proofs.Table.{high-none}
 use Rattle.prushgoli.specs.Packing.{pack}
 use Rattle.prushgoli.proofs.packing.refused.Goals as goal

@@ -1,7 +1,6 @@
 -- `records::kinds::of` meets its contract. Assumes nothing.
 use mathlib.Core.Path.{sym}
 use native.Mathlib.Omega.{arith}
-use borrow.Author.Rules.{rules}
 use Rattle.records.proofs.KindBytes.{kind-payload, kind-field, kind-unknown}
 use Rattle.records.proofs.kinds.of.Goals as goal
 

@@ -1,11 +1,9 @@
--- `report::text::bytes` meets its contract. The invariant: what is left to write leads where the whole leads. Assumes nothing.
-use mathlib.Core.Path.{◌≡◌, refl, sym, ap, ◌∙◌}
+-- `report::text::bytes` meets its contract. Assumes nothing.
+use mathlib.Core.Path.{◌≡◌, sym, ap, ◌∙◌}
 use mathlib.Core.List.{List, []}
-use Prim.Native.Nat.{ℕ, ◌+◌, ◌-◌, ◌≤◌}
+use Prim.Native.Nat.{ℕ}
 use native.Mathlib.Omega.{arith}
 use lib.ListN.{length, drop, length-drop, drop_of_length-le}
-use lib.Seq.{sets}
-use borrow.Author.Rules.{rules}
 use Rattle.report.specs.Text.{hex}
 use Rattle.report.proofs.Wrote.{wrote-length}
 use Rattle.report.proofs.HexBytes.{hex-written, hex-length, bytes-none, bytes-some, wrote_none, wrote-some}
@@ -16,14 +14,8 @@ bounds-text-at c =
     let args = c.args in
     omega (arith, c.requires, ap length (bytes-none args.bytes.now c.if-bytes-eq0.true))
 
-pub overflow_add-result : goal.overflow_add-result
-overflow_add-result c = omega (arith, slice-write-text (goal.at.overflow_add-result c).Then-bytes-eq0)
-
 pub returns-then-bytes-eq0 : goal.returns-then-bytes-eq0
 returns-then-bytes-eq0 c = wrote_none _ _ _ c.if-bytes-eq0.true
-
-pub loop-i-init : goal.loop-i-init
-loop-i-init c = (omega arith, refl, refl, refl)
 
 pub byte-end-requires : goal.byte-end-requires
 byte-end-requires c =
@@ -47,9 +39,6 @@ loop-i-preserved c =
     let loop = c.loop-i in
     let next = hex-written bytes loop.i _ _ _ _ (omega arith) c.byte-end.ensures in
     (omega arith, next.1 ∙ loop.invariant.1, wrote-length c.byte-end.ensures ∙ loop.invariant.2, loop.invariant.3 ∙ next.0)
-
-pub shape_of-text : goal.shape_of-text
-shape_of-text c = c.loop-i.invariant.2
 
 pub returns : goal.returns
 unfolding hex

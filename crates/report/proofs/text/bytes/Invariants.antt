@@ -1,14 +1,9 @@
--- `report::text::bytes` meets its contract. The invariant: what is left to write leads where the whole leads. Assumes nothing.
-use mathlib.Core.Path.{◌≡◌, refl, sym, ap, ◌∙◌}
-use mathlib.Core.List.{List, []}
-use Prim.Native.Nat.{ℕ, ◌+◌, ◌-◌, ◌≤◌}
-use native.Mathlib.Omega.{arith}
-use lib.ListN.{length, drop, length-drop, drop_of_length-le}
+-- `report::text::bytes`, the invariant: what is left to write leads where the whole leads. Assumes nothing.
+use mathlib.Core.Path.{◌≡◌}
+use Prim.Native.Nat.{◌+◌, ◌-◌, ◌≤◌}
+use lib.ListN.{length, drop}
 use lib.Seq.{sets}
-use borrow.Author.Rules.{rules}
 use Rattle.report.specs.Text.{hex}
-use Rattle.report.proofs.Wrote.{wrote-length}
-use Rattle.report.proofs.HexBytes.{hex-written, hex-length, bytes-none, bytes-some, wrote_none, wrote-some}
 use Rattle.report.proofs.text.bytes.Given as goal
 
 abbrev pub invariant-loop-i : goal.invariant-loop-i

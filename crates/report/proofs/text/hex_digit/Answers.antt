@@ -1,6 +1,5 @@
 -- `report::text::hex_digit` meets its contract. Assumes nothing.
 use borrow.Author.Tests.{lt-ltb, le-ltb}
-use borrow.Author.Rules.{rules}
 use Rattle.report.specs.Text.{hex_digit}
 use Rattle.report.proofs.text.hex_digit.Goals as goal
 

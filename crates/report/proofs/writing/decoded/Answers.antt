@@ -2,7 +2,6 @@
 use mathlib.Core.Path.{subst}
 use mathlib.Core.List.{List}
 use Prim.Native.Nat.{ℕ}
-use borrow.Author.Rules.{rules}
 use Rattle.report.specs.Report.{decoded_text}
 use Rattle.report.specs.Writing.{Wrote}
 use Rattle.report.proofs.Outcomes.{decoded-whole, whole-held, whole-text}
@@ -17,5 +16,5 @@ unfolding decoded_text
 returns c =
     let args = c.args in
     let outcome = c.outcome in
-    subst (λ (row : List ℕ). Wrote row 0 args.line.now outcome.new.1.1.1.1.0 outcome.result)
+    subst (λ (row : List ℕ). Wrote row 0 args.line.now outcome.new.line outcome.result)
     (whole-text _ _ _ _ _ c.decode-answer.ensures.answer c.decode-answer.ensures.memory (decoded-whole args.field.now) args.number _) outcome.ensures

@@ -1,15 +1,9 @@
 -- `report::writing::outcome` meets its contract, in each case of the answer. Assumes nothing.
 use mathlib.Core.Path.{sym, subst}
-use borrow.Author.Rules.{rules}
 use Rattle.refusals.specs.declared.Answer.{Answer}
 use Rattle.report.specs.Report.{outcome_text}
-use Rattle.report.specs.Writing.{Wrote, Holds, held_in}
+use Rattle.report.specs.Writing.{Wrote, held_in}
 use Rattle.report.proofs.writing.outcome.Goals as goal
-
-pub whole-requires : goal.whole-requires
-whole-requires c =
-    let held = subst (λ (a : Answer). Holds a c.args.bytes.now) c.in-Length.is c.requires.0 in
-    (held.0, held.1, c.requires.1)
 
 pub returns-in-Length : goal.returns-in-Length
 unfolding outcome_text
@@ -18,7 +12,7 @@ returns-in-Length c =
     let called = c.whole in
     subst
     (λ (a : Answer). Wrote (outcome_text args.number args.letter a (held_in a args.bytes.now)) 0 args.line.now
-    called.new.1.1.1.1.1.1.0 called.result)
+    called.new.line called.result)
     (sym c.in-Length.is) called.ensures
 
 pub returns-in-Refused : goal.returns-in-Refused
@@ -28,5 +22,5 @@ returns-in-Refused c =
     let called = c.whole-in-Refused in
     subst
     (λ (a : Answer). Wrote (outcome_text args.number args.letter a (held_in a args.bytes.now)) 0 args.line.now
-    called.new.1.1.1.1.1.1.0 called.result)
+    called.new.line called.result)
     (sym c.in-Refused.is) (rw (c.number.ensures, c.place.ensures) at called.ensures)

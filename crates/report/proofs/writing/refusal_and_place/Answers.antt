@@ -1,6 +1,5 @@
 -- `report::writing::refusal_and_place` meets its contract. Assumes nothing.
 use native.Mathlib.Omega.{arith}
-use borrow.Author.Rules.{rules}
 use Rattle.report.proofs.Wrote.{wrote-length, wrote-behind}
 use Rattle.report.proofs.Decimal.{spaced-most}
 use Rattle.report.proofs.writing.refusal_and_place.Goals as goal

@@ -1,7 +1,6 @@
 -- `scanning::bit::delimiter` meets its contract: a stuff bit is passed, then a 1 is read. Assumes nothing.
 use mathlib.Core.Path.{◌∙◌, sym}
 use native.Mathlib.Omega.{arith}
-use borrow.Author.Rules.{rules}
 use Rattle.scanning.proofs.LineBit.{passed-inside, delimiter-passed, delimiter-refused}
 use Rattle.scanning.proofs.bit.delimiter.Goals as goal
 

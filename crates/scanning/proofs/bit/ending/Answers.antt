@@ -1,6 +1,5 @@
 -- `scanning::bit::ending` meets its contract: one law for each row. Assumes nothing.
 use mathlib.Core.Path.{◌∙◌}
-use borrow.Author.Rules.{rules}
 use Rattle.scanning.proofs.LineBit.{slot_next, delimiter-next, one-next}
 use Rattle.scanning.proofs.bit.ending.Goals as goal
 

@@ -1,6 +1,5 @@
 -- `scanning::bit::field_bit` meets its contract: one law for each way. Assumes nothing.
 use mathlib.Core.Path.{◌∙◌, ap}
-use borrow.Author.Rules.{rules}
 use Rattle.scanning.specs.declared.seen.Step.TheVariants.{Next}
 use Rattle.scanning.proofs.LineBit.{bit-above, bit-right}
 use Rattle.scanning.proofs.bit.field_bit.Goals as goal

@@ -2,7 +2,6 @@
 use mathlib.Core.Path.{◌∙◌, sym}
 use Prim.Native.Nat.{◌<◌}
 use native.Mathlib.Omega.{arith}
-use borrow.Author.Rules.{rules}
 use Rattle.scanning.proofs.LineBit.{ending-next, passed-inside, field_next, field-refused}
 use Rattle.scanning.proofs.bit.next.Goals as goal
 

@@ -1,5 +1,4 @@
 -- `scanning::bit::one` meets its contract. Assumes nothing.
-use borrow.Author.Rules.{rules}
 use borrow.Author.Tests.{eq-eqb, ne_eqb}
 use Rattle.scanning.specs.Steps.{one_bit}
 use Rattle.scanning.proofs.bit.one.Goals as goal

@@ -1,5 +1,4 @@
 -- `scanning::field_end::check` meets its contract. Assumes nothing.
-use borrow.Author.Rules.{rules}
 use borrow.Author.Tests.{eq-eqb, ne_eqb}
 use Rattle.scanning.specs.Steps.{crc_read}
 use Rattle.scanning.proofs.field_end.check.Goals as goal

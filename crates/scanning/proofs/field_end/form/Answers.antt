@@ -1,6 +1,5 @@
 -- `scanning::field_end::form` meets its contract. Assumes nothing.
 use mathlib.Core.Path.{refl, sym, ◌∙◌}
-use borrow.Author.Rules.{rules}
 use Rattle.scanning.specs.Steps.{form_read, form_widths}
 use Rattle.scanning.proofs.field_end.form.Goals as goal
 

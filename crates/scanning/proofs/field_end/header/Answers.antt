@@ -1,6 +1,5 @@
 -- `scanning::field_end::header` meets its contract. Assumes nothing.
 use mathlib.Core.Path.{refl}
-use borrow.Author.Rules.{rules}
 use borrow.Author.Tests.{lt-ltb, le-ltb, eq-eqb, ne_eqb}
 use Rattle.scanning.specs.Steps.{header_read}
 use Rattle.scanning.proofs.field_end.header.Goals as goal

@@ -2,7 +2,6 @@
 use mathlib.Core.Path.{ap}
 use Prim.Native.Nat.{ℕ}
 use lib.ListN.{set}
-use borrow.Author.Rules.{rules}
 use Rattle.scanning.specs.Steps.{most_list, most_of}
 use Rattle.scanning.proofs.fields.most.Goals as goal
 

@@ -1,5 +1,4 @@
 -- `scanning::header::identifier` meets its contract: the header's number tells the form. Assumes nothing.
-use borrow.Author.Rules.{rules}
 use borrow.Author.Tests.{le-leb, lt-leb}
 use Rattle.scanning.specs.Steps.{long_told, identifier_told}
 use Rattle.scanning.proofs.header.identifier.Goals as goal

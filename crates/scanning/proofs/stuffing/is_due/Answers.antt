@@ -1,6 +1,5 @@
 -- `scanning::stuffing::is_due` meets its contract. Assumes nothing.
 use mathlib.Core.Path.{refl}
-use borrow.Author.Rules.{rules}
 use Rattle.scanning.specs.Steps.{due_in}
 use Rattle.scanning.proofs.stuffing.is_due.Goals as goal
 

@@ -1,6 +1,5 @@
 -- `scanning::stuffing::pass` meets its contract. Assumes nothing.
 use mathlib.Core.Path.{◌∙◌, sym}
-use borrow.Author.Rules.{rules}
 use Rattle.scanning.specs.Steps.{passed}
 use Rattle.scanning.proofs.stuffing.pass.Goals as goal
 

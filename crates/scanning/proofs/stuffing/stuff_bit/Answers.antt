@@ -1,6 +1,5 @@
 -- `scanning::stuffing::stuff_bit` meets its contract. Assumes nothing.
 use native.Mathlib.Omega.{arith}
-use borrow.Author.Rules.{rules}
 use borrow.Author.Tests.{lt-ltb, le-ltb, le-leb, lt-leb, eq-eqb, ne_eqb}
 use Rattle.scanning.specs.Steps.{stuff_bit}
 use Rattle.scanning.proofs.stuffing.stuff_bit.Goals as goal

@@ -1,12 +1,10 @@
 -- `scanning::walk::along` meets its contract: what is left of the line leads to the answer of the whole. Assumes nothing.
 use mathlib.Core.Path.{◌≡◌, sym, ap, ◌∙◌, subst}
-use mathlib.Core.Bool.{Bool, false}
+use mathlib.Core.Bool.{false}
 use mathlib.Core.List.{List, []}
-use Prim.Native.Nat.{ℕ, ◌-◌, ◌%◌, ◌≤◌, ◌<◌}
+use Prim.Native.Nat.{ℕ, ◌%◌, ◌<◌}
 use native.Mathlib.Omega.{arith}
-use lib.ListN.{length, get_or}
-use borrow.Author.Rules.{rules}
-use Rattle.bits.specs.declared.Run.{Run}
+use lib.ListN.{get_or}
 use Rattle.bits.specs.Stuffing.{nothing_sent}
 use Rattle.refusals.specs.declared.Refusal.{Refusal}
 use Rattle.reading.specs.Scan.{scanned}
@@ -15,7 +13,7 @@ use Rattle.reading.proofs.Partial.{width-most}
 use Rattle.scanning.specs.Steps.{widths_of, most_of, Stopped}
 use Rattle.scanning.proofs.Positions.{end_of, end_is, next_start, form-start, end-some, end-within}
 use Rattle.scanning.proofs.Rows.{reading_of, reading-told, most-bit}
-use Rattle.scanning.proofs.Keeping.{bytes, Told, Between, Within, least-both, end-small}
+use Rattle.scanning.proofs.Keeping.{bytes, least-both, end-small}
 use Rattle.scanning.proofs.InRow.{number_small}
 use Rattle.scanning.proofs.FrameBit.{Goes}
 use Rattle.scanning.proofs.NextBit.{bit-goes}
