@@ -521,5 +521,7 @@ const PLACES: [u16; 512] = [
 pub(crate) fn list() -> [u16; 512]
     ensures { result ≡ reverse_list }
 {
-    PLACES
+    // Read in place: without the reference the whole list is copied to the stack at each call.
+    let list: &'static [u16; 512] = &PLACES;
+    *list
 }

@@ -264,5 +264,7 @@ const WORDS: [u16; 256] = [
 pub fn list() -> [u16; 256]
     ensures { result ≡ word_list }
 {
-    WORDS
+    // Read in place: without the reference the whole list is copied to the stack at each call.
+    let list: &'static [u16; 256] = &WORDS;
+    *list
 }
