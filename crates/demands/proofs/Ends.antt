@@ -1,5 +1,5 @@
--- Demand 1, every public call ends: the machine's run of each call for C. From every memory σ, with the lent bytes in blocks of their own
--- beside it, the run is `done` with fuel enough, so neither stuck nor endless, with the answer of the contract; what was lent to read then
+-- Demand 1, every public call ends: the machine's run of each call for C, in every environment γ, as a program is one, that has the code of
+-- the call and of all that it calls (Linked has one). From every memory σ, with the lent bytes in blocks of their own beside it, the run is `done` with fuel enough, so neither stuck nor endless, with the answer of the contract; what was lent to read then
 -- holds what it held, and what was lent to write what the contract says. It is asked that numbers fit their types and that slices are as
 -- Rattle has them (`Lendable`). The same of every public call, in the words of the toolchain's logic, is in Runs. Assumes nothing.
 --     c-encode-ends, c-decode-ends, c-make-frame-ends, c-frame-length-ends, c-frame-bounds-ends, c-read-line-ends,
@@ -11,6 +11,8 @@ use mir.Syntax.{w32, w64}
 use mir.Val.{vint}
 use prog.Memory.{Memory}
 use prog.AdequacyRun.{Holds}
+use prog.Routine.{Env}
+use prog.Wired.{Wired}
 use Rattle.refusals.specs.Table.{answer_numbers}
 use Rattle.refusals.specs.After.{after}
 use Rattle.field.specs.Field.{field_of}
@@ -32,51 +34,51 @@ use Rattle.demands.proofs.Running.{given}
 use Rattle.demands.proofs.Blocks.{ends-alone, ends-reading, ends-writing}
 use Rattle.demands.proofs.Runs.{c-encode-runs, c-decode-runs, c-make-frame-runs, c-frame-length-runs, c-frame-bounds-runs, c-read-line-runs, c-read-own-line-runs}
 
-pub c-encode-ends : (σ : Memory) (payload field : List ℕ) → Lendable payload → Lendable field →
+pub c-encode-ends : (γ : Env) → Wired γ c-encode.code → (σ : Memory) (payload field : List ℕ) → Lendable payload → Lendable field →
     let answer = encode_answer payload (length field) in
     let σ₁ = beside σ payload in
-    Ends c-encode.routine (slice σ payload ∷ slice σ₁ field ∷ []) (beside σ₁ field) (vint w64 (pack (answer_numbers answer)))
+    Ends (γ c-encode.name) (slice σ payload ∷ slice σ₁ field ∷ []) (beside σ₁ field) (vint w64 (pack (answer_numbers answer)))
     (λ σ'. Holds σ' (length σ) 0 payload × Holds σ' (length σ₁) 0 (after (answer_numbers answer) (field_of payload) field))
-c-encode-ends σ payload field ok ok' = ends-writing c-encode-runs (λ κs i. tt) σ payload field ok ok' (λ κs γ δ a s says. says)
+c-encode-ends γ has σ payload field ok ok' = ends-writing (c-encode-runs γ has) (λ κs i. tt) σ payload field ok ok' (λ κs δ a s says. says)
 
-pub c-decode-ends : (σ : Memory) (field payload : List ℕ) → Lendable field → Lendable payload →
+pub c-decode-ends : (γ : Env) → Wired γ c-decode.code → (σ : Memory) (field payload : List ℕ) → Lendable field → Lendable payload →
     let answer = decode_answer field (length payload) in
     let σ₁ = beside σ field in
-    Ends c-decode.routine (slice σ field ∷ slice σ₁ payload ∷ []) (beside σ₁ payload) (vint w64 (pack (answer_numbers answer)))
+    Ends (γ c-decode.name) (slice σ field ∷ slice σ₁ payload ∷ []) (beside σ₁ payload) (vint w64 (pack (answer_numbers answer)))
     (λ σ'. Holds σ' (length σ) 0 field × Holds σ' (length σ₁) 0 (after (answer_numbers answer) (payload_of field) payload))
-c-decode-ends σ field payload ok ok' = ends-writing c-decode-runs (λ κs i. tt) σ field payload ok ok' (λ κs γ δ a s says. says)
+c-decode-ends γ has σ field payload ok ok' = ends-writing (c-decode-runs γ has) (λ κs i. tt) σ field payload ok ok' (λ κs δ a s says. says)
 
-pub c-make-frame-ends : (σ : Memory) (identifier : ℕ) (payload line : List ℕ) → identifier < 2 ^ 32 → Lendable payload → Lendable line →
+pub c-make-frame-ends : (γ : Env) → Wired γ c-make-frame.code → (σ : Memory) (identifier : ℕ) (payload line : List ℕ) → identifier < 2 ^ 32 → Lendable payload → Lendable line →
     let answer = make_answer (identifier_of identifier) payload (length line) in
     let σ₁ = beside σ payload in
-    Ends c-make-frame.routine (vint w32 identifier ∷ slice σ payload ∷ slice σ₁ line ∷ []) (beside σ₁ line) (vint w64 (pack (answer_numbers answer)))
+    Ends (γ c-make-frame.name) (vint w32 identifier ∷ slice σ payload ∷ slice σ₁ line ∷ []) (beside σ₁ line) (vint w64 (pack (answer_numbers answer)))
     (λ σ'. Holds σ' (length σ) 0 payload × Holds σ' (length σ₁) 0 (after (answer_numbers answer) (payload_line (identifier_of identifier) payload) line))
-c-make-frame-ends σ identifier payload line fits ok ok' =
-    ends-writing (given c-make-frame-runs identifier fits) (λ κs i. tt) σ payload line ok ok' (λ κs γ δ a s says. says)
+c-make-frame-ends γ has σ identifier payload line fits ok ok' =
+    ends-writing (given (c-make-frame-runs γ has) identifier fits) (λ κs i. tt) σ payload line ok ok' (λ κs δ a s says. says)
 
-pub c-frame-length-ends : (σ : Memory) (identifier : ℕ) (payload : List ℕ) → identifier < 2 ^ 32 → Lendable payload →
+pub c-frame-length-ends : (γ : Env) → Wired γ c-frame-length.code → (σ : Memory) (identifier : ℕ) (payload : List ℕ) → identifier < 2 ^ 32 → Lendable payload →
     let answer = length_answer (identifier_of identifier) payload in
-    Ends c-frame-length.routine (vint w32 identifier ∷ slice σ payload ∷ []) (beside σ payload) (vint w64 (pack (answer_numbers answer)))
+    Ends (γ c-frame-length.name) (vint w32 identifier ∷ slice σ payload ∷ []) (beside σ payload) (vint w64 (pack (answer_numbers answer)))
     (λ σ'. Holds σ' (length σ) 0 payload)
-c-frame-length-ends σ identifier payload fits ok =
-    ends-reading (given c-frame-length-runs identifier fits) (λ κs i. tt) σ payload ok (λ κs γ a s says. says)
+c-frame-length-ends γ has σ identifier payload fits ok =
+    ends-reading (given (c-frame-length-runs γ has) identifier fits) (λ κs i. tt) σ payload ok (λ κs a s says. says)
 
-pub c-frame-bounds-ends : (σ : Memory) (identifier size : ℕ) → identifier < 2 ^ 32 → size < 2 ^ 64 →
+pub c-frame-bounds-ends : (γ : Env) → Wired γ c-frame-bounds.code → (σ : Memory) (identifier size : ℕ) → identifier < 2 ^ 32 → size < 2 ^ 64 →
     let answer = bounds_answer (identifier_of identifier) size in
-    Ends c-frame-bounds.routine (vint w32 identifier ∷ vint w64 size ∷ []) σ (vint w64 (pack (bounds_numbers answer))) (λ σ'. Unit {0})
-c-frame-bounds-ends σ identifier size fits fits' =
-    ends-alone (given (given c-frame-bounds-runs identifier fits) size fits') tt σ (λ a says. says)
+    Ends (γ c-frame-bounds.name) (vint w32 identifier ∷ vint w64 size ∷ []) σ (vint w64 (pack (bounds_numbers answer))) (λ σ'. Unit {0})
+c-frame-bounds-ends γ has σ identifier size fits fits' =
+    ends-alone (given (given (c-frame-bounds-runs γ has) identifier fits) size fits') tt σ (λ a says. says)
 
-pub c-read-line-ends : (σ : Memory) (line payload : List ℕ) → Lendable line → Lendable payload →
+pub c-read-line-ends : (γ : Env) → Wired γ c-read-line.code → (σ : Memory) (line payload : List ℕ) → Lendable line → Lendable payload →
     let answer = read_answer acknowledged line (length payload) in
     let σ₁ = beside σ line in
-    Ends c-read-line.routine (slice σ line ∷ slice σ₁ payload ∷ []) (beside σ₁ payload) (vint w64 (pack (line_numbers answer)))
+    Ends (γ c-read-line.name) (slice σ line ∷ slice σ₁ payload ∷ []) (beside σ₁ payload) (vint w64 (pack (line_numbers answer)))
     (λ σ'. Holds σ' (length σ) 0 line × Holds σ' (length σ₁) 0 (after (line_numbers answer) (payload_in acknowledged line) payload))
-c-read-line-ends σ line payload ok ok' = ends-writing c-read-line-runs (λ κs i. tt) σ line payload ok ok' (λ κs γ δ a s says. says)
+c-read-line-ends γ has σ line payload ok ok' = ends-writing (c-read-line-runs γ has) (λ κs i. tt) σ line payload ok ok' (λ κs δ a s says. says)
 
-pub c-read-own-line-ends : (σ : Memory) (line payload : List ℕ) → Lendable line → Lendable payload →
+pub c-read-own-line-ends : (γ : Env) → Wired γ c-read-own-line.code → (σ : Memory) (line payload : List ℕ) → Lendable line → Lendable payload →
     let answer = read_answer own line (length payload) in
     let σ₁ = beside σ line in
-    Ends c-read-own-line.routine (slice σ line ∷ slice σ₁ payload ∷ []) (beside σ₁ payload) (vint w64 (pack (line_numbers answer)))
+    Ends (γ c-read-own-line.name) (slice σ line ∷ slice σ₁ payload ∷ []) (beside σ₁ payload) (vint w64 (pack (line_numbers answer)))
     (λ σ'. Holds σ' (length σ) 0 line × Holds σ' (length σ₁) 0 (after (line_numbers answer) (payload_in own line) payload))
-c-read-own-line-ends σ line payload ok ok' = ends-writing c-read-own-line-runs (λ κs i. tt) σ line payload ok ok' (λ κs γ δ a s says. says)
+c-read-own-line-ends γ has σ line payload ok ok' = ends-writing (c-read-own-line-runs γ has) (λ κs i. tt) σ line payload ok ok' (λ κs δ a s says. says)

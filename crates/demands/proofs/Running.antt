@@ -1,6 +1,7 @@
 -- From a contract to the machine's run, by the toolchain's theorem on calls that meet theirs (denote.Triple.Adequate), at the closed model
 -- of its logic. Assumes nothing.
---     runs     a call that meets its contract runs as `Runs` says
+--     running  the machine's runs, where each name means what an environment says
+--     runs     a call that meets its contract wherever its code is, runs as `Runs` says wherever its code is
 --     given    a call that runs, runs with its first parameter set to a number
 --     ended    a call that runs and answers a number ends as `Ends` says, if what it leaves is what is wanted
 use mathlib.Core.Path.{◌≡◌, refl, ap, subst, ◌∙◌}
@@ -12,14 +13,16 @@ use mir.Val.{Val, vint, bits}
 use base.Logic.{ent, ex, emp, via, mono_l, fst∗, snd∗}
 use prog.Memory.{Memory}
 use prog.Machine.{done}
-use prog.Routine.{Routine, Name, Env, any_name}
-use ghost.Atoms.{meaning}
-use ghost.Model.{𝓤, H, model}
-use types.Kit.{‵, raw, ◌⊛◌, given as provided, ◌$◌, ◌∵◌, !, qed, by, move, use1, split, learn, fjoin, feq_i, flt_i, done as shown}
+use prog.Routine.{Routine, Env, Callee, step}
+use prog.Wired.{Code, Wired}
+use ghost.Model.{𝓤, H}
+use types.Logic.{sem}
+use types.Kit.{‵, raw, ◌⊛◌, ◌$◌, ◌∵◌, !, qed, by, move, use1, split, fjoin, feq_i, flt_i, done as shown}
 use contract.BorrowModel.{logic₀}
 use contract.Lifetimes.{Lfts}
 use contract.Monad.{fact, fact_i}
-use contract.Running.{tables, tables_of, real}
+use contract.Running.{Running, tables, tables_of, within}
+use contract.Closed.{model⁺, real⁺, real⁺_strict}
 use contract.Adequate.{sat_weaken, sat_fact, sat_ex∗, sat_⇛}
 use denote.Plain.{UInt}
 use denote.RattleType.{owns}
@@ -34,8 +37,9 @@ use borrow.Fn.Function.{known_of}
 use borrow.Fn.Kinds.{ParamKind, ResultKind, In, Out, Dens, sig_of, slots, ended_of, stays, res_t, p_num, r_num}
 use borrow.Fn.Plain.{Known}
 use borrow.Fn.Run.{Over}
+use borrow.Fn.World.{World}
 use Rattle.demands.specs.Ends.{Ends}
-use Rattle.demands.specs.Runs.{A, Assertion, ◌∗◌, ◌⊨◌, Call, values, Handed, Answer, Last, Left, Answered, Runs}
+use Rattle.demands.specs.Runs.{Assertion, ◌∗◌, ◌⊨◌, Call, values, Handed, Answer, Last, Left, Answered, Runs, RunsEverywhere}
 
 infix 26 ◌⊢◌
 abbrev pub ◌⊢◌ : Assertion → Assertion → Type 1
@@ -54,37 +58,47 @@ module _ {n : ℕ} (ps : List (ParamKind n)) (r : ResultKind n) (Q : Out n ps r)
   learnt value =
       let Is : Type 0 = r.is.Is c.0 answer (value ∷ []) in
       qed logic₀ ((raw (Left ps r c last) ⊛ raw (fact 𝓤 Said))
-      ∷ (raw (alive 𝓤 H A (sig_of n ps r) c.0 c.1) ⊛ ‵ ((res_t r c.0).own answer (value ∷ []))) ∷ []) ∵
+      ∷ (raw (alive logic₀ (sig_of n ps r) c.0 c.1) ⊛ ‵ ((res_t r c.0).own_val answer (value ∷ []))) ∷ []) ∵
       split ! $ move ! (1 ∷ []) $ heard ! Said (λ said. move ! (1 ∷ []) $ split ! $ move ! (1 ∷ []) $
-      use1 logic₀ (provided Is (‵ (r.is.ownᵒ c.0 answer))) ((r.laws _ 𝓤 H A logic₀).old c.0 answer (value ∷ [])) $ learn ! (λ is.
+      use1 logic₀ (raw (fact 𝓤 Is)) ((r.laws _ 𝓤 logic₀).seen c.0 answer (value ∷ [])) $ heard ! Is (λ is.
       by ! (fact_i 𝓤 (Said × Is) _ (said, is))))
 
-module _ {n : ℕ} {ps : List (ParamKind n)} {r : ResultKind n} {P : In n ps} {Q : Out n ps r} {ρ : Routine} {Met : Routine → Type 1} where
-  pub runs : ((γ : Env) (k : Name) (ρ : Routine) → γ k ≡ ρ → Met ρ → Known 𝓤 H A logic₀ (Over logic₀ model (real 𝓤 H model) γ) n ps r P Q k)
-      → Met ρ → Runs ps r P Q ρ
+-- the machine's runs where a name means what an environment says, and the closed model with them
+abbrev pub running : Env → Running 𝓤 H model⁺
+running γ = within 𝓤 H model⁺ real⁺ γ
+
+abbrev pub world : Env → World
+world γ = record { M = _; 𝓤 = 𝓤; 𝓛 = logic₀; 𝓜 = model⁺; 𝓡 = running γ }
+
+module _ {n : ℕ} {ps : List (ParamKind n)} {r : ResultKind n} {P : In n ps} {Q : Out n ps r} where
+  known_runs : (γ : Env) (name : Callee) → Known logic₀ (Over logic₀ model⁺ (running γ) γ) n ps r P Q name → Runs ps r P Q (γ name)
   unfolding tables_of
-  runs known met = record {
+  known_runs γ name known = record {
     ends = λ c p σ F s.
-        ∥∥₁_elim (adequate 𝓤 H model (tables 𝓤 H model (real 𝓤 H model) (λ _. ρ)) any_name (known_of 𝓤 H A n ps r P Q)
-        (known (λ _. ρ) any_name ρ refl met) (c, tt) σ F
-        (sat_weaken 𝓤 H model σ (mono_l 𝓤 F (with_fact 𝓤 (P c.0 c.3) (Handed ps r c) p)) s)) ∥∥₁_prop (λ e.
+        ∥∥₁_elim (adequate 𝓤 H model⁺ (tables 𝓤 H model⁺ (running γ) γ) real⁺_strict name (known_of logic₀ n ps r P Q) known (c, tt) σ F
+        (sat_weaken 𝓤 H model⁺ σ (mono_l 𝓤 F (with_fact 𝓤 (P c.0 c.3) (Handed ps r c) p)) s)) ∥∥₁_prop (λ e.
         let Behind : Answer ps r c → Last ps r c → Assertion = λ a l. After ps r Q c a l e.1 in
-        ∥∥₁_elim (sat_ex∗ 𝓤 H model e.2 (λ a. ex 𝓤 (Behind a)) F (sat_⇛ 𝓤 H model e.2 _ F e.4)) ∥∥₁_prop (λ a.
-        ∥∥₁_elim (sat_ex∗ 𝓤 H model e.2 (Behind a.0) F a.1) ∥∥₁_prop (λ l.
+        ∥∥₁_elim (sat_ex∗ 𝓤 H model⁺ e.2 (λ a. ex 𝓤 (Behind a)) F (sat_⇛ 𝓤 H model⁺ e.2 _ F e.4)) ∥∥₁_prop (λ a.
+        ∥∥₁_elim (sat_ex∗ 𝓤 H model⁺ e.2 (Behind a.0) F a.1) ∥∥₁_prop (λ l.
         let B : Assertion = Behind a.0 l.0 in
         let L : Assertion = Left ps r c l.0 in
         let S : Assertion = fact 𝓤 (Said ps r Q c a.0 l.0) in
-        let left = sat_weaken 𝓤 H model e.2 (mono_l 𝓤 F (mono_l 𝓤 (Answered ps r c e.1 a.0) (fst∗ 𝓤 L S))) l.1 in
-        ∥∥₁_map (sat_fact 𝓤 H model e.2 (B ∗ F) _ (via 𝓤 (B ∗ F) (snd∗ 𝓤 (model.mem e.2) (B ∗ F))
+        let left = sat_weaken 𝓤 H model⁺ e.2 (mono_l 𝓤 F (mono_l 𝓤 (Answered ps r c e.1 a.0) (fst∗ 𝓤 L S))) l.1 in
+        ∥∥₁_map (sat_fact 𝓤 H model⁺ e.2 (B ∗ F) _ (via 𝓤 (B ∗ F) (snd∗ 𝓤 (model⁺.mem e.2) (B ∗ F))
         (via 𝓤 B (fst∗ 𝓤 B F) (learnt ps r Q c a.0 l.0 e.1))) l.1) (λ t.
         (e.0, e.1, e.2, a.0, l.0, e.3, t.1, t.0.1, left)))));
   }
 
+  pub runs : {Met : World → Routine → Type 1} (code : Code) (name : Callee)
+      → ((w : World) (γ : Env) (k : Callee) (ρ : Routine) → γ k ≡ ρ → Met w ρ → Known w.𝓛 (Over w.𝓛 w.𝓜 w.𝓡 γ) n ps r P Q k)
+      → ((γ : Env) → Wired γ code → Met (world γ) (γ name)) → RunsEverywhere ps r P Q code name
+  runs code name known met = λ γ wired. known_runs γ name (known (world γ) γ name (γ name) refl (met γ wired))
+
 -- ---- a number given
 abbrev pub after-number : Width → ℕ → Routine → Routine
-after-number w m ρ = record { step = λ fuel vs. ρ.step fuel (vint w m ∷ vs); grows = λ k j vs. ρ.grows k j (vint w m ∷ vs) }
+after-number w m ρ = record { tree = λ fuel vs. ρ.tree fuel (vint w m ∷ vs); spreads = λ k j vs. ρ.spreads k j (vint w m ∷ vs) }
 
-with_number : (w : Width) (m : ℕ) → m < 2 ^ bits w → (T R : Assertion) → T ∗ R ⊢ T ∗ meaning 𝓤 H A ((UInt w).own_val m (vint w m ∷ [])) ∗ R
+with_number : (w : Width) (m : ℕ) → m < 2 ^ bits w → (T R : Assertion) → T ∗ R ⊢ T ∗ sem logic₀ ((UInt w).own_val m (vint w m ∷ [])) ∗ R
 with_number w m fits T R =
     qed logic₀ (raw T ∷ raw R ∷ []) ∵ flt_i ! m (2 ^ bits w) fits $ feq_i ! (List Val) (vint w m ∷ []) (vint w m ∷ []) refl $ fjoin ! $
     move ! (1 ∷ 0 ∷ 2 ∷ []) $ shown !
@@ -94,12 +108,12 @@ module _ {n : ℕ} {ps : List (ParamKind n)} {r : ResultKind n} {w : Width} {P :
       → Runs ps r (λ κs i. P κs (m, i)) (λ κs i a s. Q κs (m, i) a (m, s)) (after-number w m ρ)
   given runs m fits = record {
     ends = λ c p σ F s.
-        let T : Assertion = alive 𝓤 H A (sig_of n ps r) c.0 c.1 in
-        let R : Assertion = meaning 𝓤 H A (owns (types_at (slots ps) c.0) c.3 c.4) in
+        let T : Assertion = alive logic₀ (sig_of n ps r) c.0 c.1 in
+        let R : Assertion = sem logic₀ (owns (types_at (slots ps) c.0) c.3 c.4) in
         ∥∥₁_map (runs.ends (c.0, c.1, c.2, (m, c.3), (vint w m ∷ [], c.4)) p σ F
-        (sat_weaken 𝓤 H model σ (mono_l 𝓤 F (with_number w m fits T R)) s)) (λ e.
+        (sat_weaken 𝓤 H model⁺ σ (mono_l 𝓤 F (with_number w m fits T R)) s)) (λ e.
         let L : Assertion = Left ps r c e.4.1 in
-        let left = sat_weaken 𝓤 H model e.2 (mono_l 𝓤 F (mono_l 𝓤 (Answered ps r c e.1 e.3) (snd∗ 𝓤 (emp 𝓤) L))) e.8 in
+        let left = sat_weaken 𝓤 H model⁺ e.2 (mono_l 𝓤 F (mono_l 𝓤 (Answered ps r c e.1 e.3) (snd∗ 𝓤 (emp 𝓤) L))) e.8 in
         (e.0, e.1, e.2, e.3, e.4.1, e.5, e.6, e.7, left));
   }
 
@@ -117,4 +131,4 @@ module _ {n : ℕ} {ps : List (ParamKind n)} {w : Width} {P : In n ps} {Q : Out 
       ∥∥₁_elim (runs.ends c (every c.0 c.3) σ F s) ∥∥₁_prop (λ e.
       let is : e.1 ≡ vint w answer = ap only e.6.0 ∙ ap (vint w) (answers e.3 e.4 e.7) in
       ∥∥₁_map (leaves e.3 e.4 e.7 e.1 e.2 e.8) (λ left.
-      (e.0, e.2, subst (λ (v : Val). ρ.step e.0 (values ps (r_num w) c) σ ≡ done (v, e.2)) is e.5, left)))
+      (e.0, e.2, subst (λ (v : Val). step ρ e.0 (values ps (r_num w) c) σ ≡ done (v, e.2)) is e.5, left)))

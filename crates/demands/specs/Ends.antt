@@ -1,22 +1,23 @@
 -- What is said of a call for C on the toolchain's machine. Its memory is a list of blocks, each known by its place in that list; a block in
--- use has an alignment and a list of cells. Assumes nothing.
+-- use has an alignment, a list of cells, and whether it may be written. Assumes nothing.
 use Rattle.std.specs.Prelude.{◌≡◌, List, [], ◌∷◌, ◌++◌, map, ℕ, ◌<◌, ◌^◌, length}
-use Rattle.std.proofs.Math.Option.{some}
+use mathlib.Core.Bool.{true}
+use mathlib.Core.Option.{some}
 use mir.Mem.{byte}
 use mir.Val.{Val}
 use denote.Slice.{slice_val}
 use prog.Machine.{done}
 use prog.Memory.{Memory}
-use prog.Routine.{Routine}
+use prog.Routine.{Routine, step}
 use Rattle.bits.specs.Below.{Below}
 
 -- what a slice can hold: bytes, less than 2^63 of them [7.8]
 abbrev pub Lendable : List ℕ → Type 0
 Lendable bytes = Below 256 bytes × (length bytes < 2 ^ 63)
 
--- a memory and behind it one more block, which has these bytes [7.8]
+-- a memory and behind it one more block, which has these bytes and may be written [7.8]
 abbrev pub beside : Memory → List ℕ → Memory
-beside σ bytes = σ ++ (some (1, map byte bytes) ∷ [])
+beside σ bytes = σ ++ (some (1, map byte bytes, true) ∷ [])
 
 -- the machine's value for a slice of all these bytes: where that block begins, and how many they are [7.8]
 abbrev pub slice : Memory → List ℕ → Val
@@ -26,4 +27,4 @@ slice σ bytes = slice_val (length σ, 0) (length bytes)
 -- `Leaves` holds [7.8]
 abbrev pub Ends : Routine → List Val → Memory → Val → (Memory → Type 0) → Type 0
 Ends routine values σ answer Leaves =
-    ∥ ((fuel : ℕ) × (σ' : Memory) × (routine.step fuel values σ ≡ done (answer, σ')) × Leaves σ') ∥₁
+    ∥ ((fuel : ℕ) × (σ' : Memory) × (step routine fuel values σ ≡ done (answer, σ')) × Leaves σ') ∥₁
