@@ -11,3 +11,4 @@ pub mod Rising
 pub mod Stuffing
 pub mod Neighbours
 pub mod Calm
+pub mod Linked

@@ -3,3 +3,4 @@ pub mod Division
 pub mod Linear
 pub mod CrcFours
 pub mod CrcExamples
+pub mod Linked

@@ -9,3 +9,4 @@ pub mod RoundTrip
 pub mod Lengths
 pub mod Small
 mod Leads
+pub mod Linked

@@ -3,6 +3,7 @@ pub mod Meets
 pub mod Demand1
 pub mod Running
 pub mod Runs
+pub mod Linked
 pub mod Lending
 pub mod Blocks
 pub mod Ends

@@ -8,3 +8,4 @@ pub mod Places
 pub mod Lengths
 pub mod FieldCalm
 pub mod Small
+pub mod Linked

@@ -2,3 +2,4 @@ pub mod FourBits
 pub mod Quiet
 pub mod Written
 pub mod FrameParts
+pub mod Linked

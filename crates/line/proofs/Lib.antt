@@ -13,3 +13,4 @@ pub mod ReadRefusals
 pub mod TwoReadings
 pub mod Examples
 pub mod Small
+pub mod Linked

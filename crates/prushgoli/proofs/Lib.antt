@@ -1,3 +1,4 @@
 pub mod Packed
 pub mod Fits
 pub mod Examples
+pub mod Linked

@@ -1,2 +1,3 @@
 pub mod KindBytes
 pub mod Records
+pub mod Linked

@@ -5,3 +5,4 @@ pub mod Outcomes
 pub mod Reports
 pub mod WholeReport
 pub mod Examples
+pub mod Linked

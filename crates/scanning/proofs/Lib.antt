@@ -19,3 +19,4 @@ pub mod RowEnd
 pub mod FormEnds
 pub mod FieldEnds
 pub mod LineEnds
+pub mod Linked

@@ -4,3 +4,4 @@ pub mod Words
 pub mod Lists
 pub mod Symbols
 pub mod ShortList
+pub mod Linked

@@ -1,0 +1,21 @@
+-- What a program has of this crate: the table of its functions' code. A program with it, and with what is called of the crates below
+-- (`Below`), has the code of each call and of all that it calls. Assumes nothing.
+use mathlib.Core.Bool.{true}
+use prog.Linked.{Tree, World, Holds, in_world}
+use prog.LinkedThreads.{HasT}
+use Rattle.refusals.proofs.Refusal.number.Symbol as number
+use Rattle.refusals.proofs.Refusal.place.Symbol as place
+use Rattle.refusals.proofs.TheLink as link
+
+abbrev pub table : Tree
+table = link.table
+
+abbrev pub Below : World → Type 0
+Below = link.Below
+
+module _ (program : World) (here : Holds program "refusals" table) (below : Below program) where
+  pub has-Refusal-number : HasT (in_world program) true number.code
+  has-Refusal-number = link.linked-refusals::Refusal::number program here below
+
+  pub has-Refusal-place : HasT (in_world program) true place.code
+  has-Refusal-place = link.linked-refusals::Refusal::place program here below
