@@ -23,16 +23,13 @@ struct mailbox {
     uint8_t data[PRUSHGOLI_FIELD_MOST];
 };
 
-/* Every answer goes through here: a refusal is printed, and where it has a place that counts something, that too. */
+/* Every answer goes through here: a refusal is printed. */
 static bool accepted(const char *who, prushgoli_answer answer)
 {
     if (prushgoli_accepted(answer))
         return true;
-    const char *unit = prushgoli_answer_unit(answer);
-    printf("%s: refusal %u", who, prushgoli_refusal(answer));
-    if (*unit != '\0')
-        printf(", %s %u", unit, prushgoli_place(answer));
-    printf(": %s\n", prushgoli_answer_reason(answer));
+    printf("%s: refusal %u, place %u: %s\n", who, prushgoli_refusal(answer), prushgoli_place(answer),
+           prushgoli_answer_reason(answer));
     return false;
 }
 
