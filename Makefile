@@ -1,7 +1,7 @@
 # Prushgoli. `make test` is the whole gate, `make run` the program trace on an example, `make lib` the library for C.
 .PHONY: help test evidence bench can-fail peers run readable lib install uninstall clean
 .DELETE_ON_ERROR:
-# Two runs of rt would share target/.
+# A second run of rt would wait for the first.
 .NOTPARALLEL:
 
 PREFIX = /usr/local
@@ -28,9 +28,10 @@ rt = command -v rt >/dev/null || { echo 'make $@: the Rattle toolchain is missin
 # What a step of the gate prints is kept too, in build/gate: the record that `make evidence` shows.
 keep = 2>&1 | tee build/gate
 
-# What needs no proof comes first. `rt ci` removes target/ and proves everything from nothing; the library and the program
-# are then built from what it left, not proved a second time. evidence/build makes the pages and has tests/evidence check them.
-# The closing line of `rt ci` is the gate's: it is said again at the end.
+# What needs no proof comes first. `rt ci` proves every crate from nothing, or knows that it did so before on this machine, with the
+# same files; it tries each must-fail edit, and refuses files that are not laid out. It passes where an edit is bad, one that the
+# prover did not come to: the gate does not. The library and the program are then built over what it left. evidence/build makes
+# the pages and has tests/evidence check them. The closing line of `rt ci` is the gate's: it is said again at the end.
 test: SHELL = /bin/bash -o pipefail
 test:
 	@$(rt)
@@ -38,13 +39,16 @@ test:
 	@rm -rf build && mkdir -p build/gate
 	@{ evidence/source && echo "machine $$(uname -m)" && echo "cores $$(nproc)" && date +'time %s'; } >build/gate/begin
 	rt version $(keep)/version
-	rt fmt --check $(keep)/fmt
 	tests/total $(keep)/total
 	tests/documents
 	tests/header $(keep)/header
 	rt ci $(keep)/ci
-	tests/documents target/must-fail $(keep)/documents
-	$(MAKE) lib target/bin/trace $(keep)/lib
+	@edits=$$(find crates -path '*/must-fail/*.edit' | wc -l); \
+	grep -Eq "^rt: ok; .*; must-fail edits: $$edits refused(, [0-9]+ of them only by a limit)?;" build/gate/ci || \
+	{ echo "make test: not all of the $$edits must-fail edits were refused" >&2; exit 1; }
+	tests/documents build/gate/ci $(keep)/documents
+	$(MAKE) lib $(keep)/lib
+	$(MAKE) build/bin/trace $(keep)/program
 	tests/archive $(keep)/archive
 	tests/example $(keep)/example
 	tests/readme $(keep)/readme
@@ -70,10 +74,10 @@ build/gate/end: $(filter-out %.trace bench,$(shell evidence/tested folders))
 	@$(MAKE) test
 
 # Not part of the gate: it measures.
-bench: lib target/bin/trace
+bench: lib build/bin/trace
 	@bench/run
 
-can-fail: lib target/bin/trace
+can-fail: lib build/bin/trace
 	tests/compare/can-fail
 	tests/trace/can-fail
 	tests/can-fail
@@ -88,8 +92,8 @@ peers: lib
 	@tail -n 1 build/peers/said
 
 # On a machine that is not x86-64 the program runs under qemu, which tests/x86-64 installs.
-run: readable target/bin/trace
-	@. tests/x86-64 && PRUSHGOLI_LIBEXEC=target/bin programs/prushgoli-trace <$(run-on)
+run: readable build/bin/trace
+	@. tests/x86-64 && PRUSHGOLI_LIBEXEC=build/bin programs/prushgoli-trace <$(run-on)
 
 # What the program reads: the file, or the trace of it where its name ends in .hex.
 run-on = $(if $(filter %.hex,$(lastword $(value TRACE))),build/run.trace,$(call quoted,TRACE))
@@ -103,19 +107,21 @@ readable:
 	[ -r "$$trace" ] || refuse "the file '$$trace' may not be read"; \
 	case $$trace in (*.hex) programs/prushgoli-hex "$$trace" >build/run.trace;; esac
 
-# Folders are sources too, so that a file that is gone is noticed.
-SOURCES = crates.txt $(shell find crates -name must-fail -prune -o -print)
+# Folders are sources too, so that a file that is gone is noticed; but not those of the crates, in which rt makes out/.
+SOURCES = crates.txt $(shell find crates -mindepth 2 \( -path 'crates/*/must-fail' -o -path 'crates/*/out' \) -prune -o -print)
 
 # What rt makes gets the time at which its proof began, so that what was edited meanwhile is newer.
 begin = mkdir -p build && touch build/started
 date = touch -c -r build/started $@
 
-# All that this prints goes to standard error: the output of `make run` is the report alone.
-target/bin/trace: $(SOURCES)
+# All that this prints goes to standard error: the output of `make run` is the report alone. `rt check` says which contracts of C
+# the program rests on; `rt run` builds it, and runs it once.
+build/bin/trace: $(SOURCES)
 	@$(rt)
 	@echo 'rt check trace: the program is proved before it is built, which takes a minute or two' >&2
-	@$(begin)
-	@rt check trace >&2
+	@$(begin) && mkdir -p build/bin
+	@cd crates/trace && rt check --list-axioms >&2 && rt run <stdin >../../build/run.report
+	@cp crates/trace/out/trace $@
 	@$(date)
 
 # The trace is replaced only when all of it is there.
@@ -130,8 +136,8 @@ lib: build/libprushgoli.a build/prushgoli.h build/prushgoli.pc
 build/libprushgoli.a: $(SOURCES)
 	@$(rt)
 	@$(begin)
-	rt staticlib prushgoli
-	cp target/staticlib/libprushgoli.a $@
+	cd crates/prushgoli_c && rt lib
+	cp crates/prushgoli_c/out/libprushgoli_c.a $@
 	@$(date)
 
 build/prushgoli.h: include/prushgoli.h
@@ -151,13 +157,13 @@ build/prushgoli.pc: prushgoli.pc.in include/prushgoli.h
 
 # In a prefix pkg-config wants a backslash before what ends a word or starts a comment.
 to = $(call quoted,DESTDIR)$(call quoted,PREFIX)
-install: lib target/bin/trace
+install: lib build/bin/trace
 	install -d $(to)/lib/pkgconfig $(to)/include $(to)/bin $(to)/libexec/prushgoli
 	install -m 644 build/libprushgoli.a $(to)/lib
 	install -m 644 build/prushgoli.h $(to)/include
 	prefix=$$(realpath -ms -- $(call quoted,PREFIX) | sed 's/[ "#\\'\'']/\\&/g') && export prefix && \
 	$(call pc,/lib,/include) | install -m 644 /dev/stdin $(to)/lib/pkgconfig/prushgoli.pc
-	install target/bin/trace $(to)/libexec/prushgoli
+	install build/bin/trace $(to)/libexec/prushgoli
 	install programs/prushgoli-trace programs/prushgoli-hex $(to)/bin
 
 uninstall:
