@@ -15,7 +15,7 @@ def developed(document):
     named = {name for row in re.findall(r"^\| (`.*?`) \| ", text, re.MULTILINE) for name in re.findall(r"`(\w+::[^`]*)`", row)}
     for name in sorted(there ^ named):
         complain(document, f"{'it does not name' if name in there else 'there is no'} {name}")
-    known = {name: set(knows.split()) for name, knows in re.findall(r"^(\w+):([^#\n]*)", read("crates.txt"), re.MULTILINE)}
+    known = {name: set(knows.split()) for name, knows in re.findall(r"^(\w+)(?: staticlib)?:([^#\n]*)", read("crates.txt"), re.MULTILINE)}
     above = set()
     for name, knows in re.findall(r"^\| \[(\w+)\]\(\.\./crates/\1\) \| [^|]* \| ([^|]*) \|$", text, re.MULTILINE):
         said = {"nothing": set(), "all above": set(above)}.get(knows, set(knows.split(", ")))
@@ -37,7 +37,7 @@ def contents(document):
 def known_names(document):
     """What stands in `` is in the sources: each of its words. `.._as_defined` stands for several names."""
     folders = [ROOT / folder for folder in ("crates", "tests", "bench", "evidence", "include", "examples", "programs")]
-    paths = [*ROOT.glob("*"), *(path for folder in folders for path in folder.rglob("*"))]
+    paths = [*ROOT.glob("*"), *(path for folder in folders for path in folder.rglob("*") if "out" not in path.relative_to(ROOT).parts)]
     sources = [path for path in paths if path.is_file() and path.suffix != ".md"]
     said = [path for path in sources if path.name != "can-fail" and path.parent.name != "papers"]
     text = " ".join(path.read_text(encoding="utf-8", errors="replace") for path in said)

@@ -1,8 +1,9 @@
 """What is checked of INSPECTION.md: a quote stands word for word in the file linked last before it; it says how many calls there are, and
-how many must-fail edits and rows its table of wrong programs has. Where logs are given, the first error named in a row is the one in the
-log of its edit, and each row is printed, `five:` for document 01's five wrong programs, whose names are bold, `refused:` for the others:
+how many must-fail edits and rows its table of wrong programs has. Where what the gate printed is given, the first error named in a row is the one
+that it says of its edit, and each row is printed, `five:` for document 01's five wrong programs, whose names are bold, `refused:` for the
+others:
 
-    refused: PROGRAM | CRATE/EDIT | LAW in crates/CRATE/proofs/FILE | BY WHAT
+    refused: PROGRAM | CRATE/EDIT | LAW in crates/CRATE/FOLDER/FILE | BY WHAT
 
 It counts the lines of definition proper, without imports, comments and blank lines, in five lists. A list starts with its sum, one of
 
@@ -86,7 +87,7 @@ def public_calls(document, reached):
 def wrong_programs(document):
     """The rows of the table of wrong programs: the program, its edit, the law or step and the file of the first error, by what."""
     row = re.compile(r"^\| ([^|]+) \| \[`(\w+)`\]\(\.\./crates/(\w+)/must-fail/\2\.edit\) "
-                     r"\| `([^`]+)` in \[[^]]*\]\(\.\./(crates/\3/proofs/[^)]+)\) \| ([^|]+) \|$", re.MULTILINE)
+                     r"\| `([^`]+)` in \[[^]]*\]\(\.\./(crates/\3/(?:proofs|src)/[^)]+)\) \| ([^|]+) \|$", re.MULTILINE)
     rows = row.findall(read(document))
     if len(rows) != read(document).count(".edit)"):
         complain(document, f"the table of wrong programs has {len(rows)} rows that can be read")
@@ -98,14 +99,14 @@ def wrong_programs(document):
     return rows
 
 
-def first_errors(document, rows, logs):
-    """The first error of a wrong program: the law or step and its file, as the log has them."""
+def first_errors(document, rows, log):
+    """The first error of a wrong program: the law or step and its file, as the gate says them behind the edit's name."""
+    refused = re.compile(r"^rt: must-fail (\w+/\w+)\.edit: refused, as it must be: (?:note: )?(?:\./)?(\S+?):\d+:\d+: (.*)$", re.MULTILINE)
+    said = {edit: (file, error) for edit, file, error in refused.findall(read(log))}
     for _, edit, crate, name, path, _ in rows:
-        errors = []
-        for log in (ROOT / logs).glob(f"{crate}/{edit}/.log"):
-            errors = [line for line in log.read_text(encoding="utf-8").splitlines() if ": error: " in line]
-        if not errors or f"/{edit}/{path.split('/', 2)[2]}:" not in errors[0] or f"`{name}`" not in errors[0]:
-            complain(document, f"the first error of {crate}/{edit} is: {(errors or ['none'])[0][-160:]}")
+        file, error = said.get(f"{crate}/{edit}", ("", "none"))
+        if f"crates/{crate}/{file}" != path or f"`{name}`" not in error:
+            complain(document, f"the first error of {crate}/{edit} is: {file}: {error}")
 
 
 def refusals(rows):

@@ -62,8 +62,8 @@ def counted(document):
     laws = "".join(path.read_text(encoding="utf-8") for path in ROOT.glob("crates/demands/proofs/*.antt"))
     for named, more in re.findall(r"((?:\[?`[\w-]+`(?:\]\([^)]*\))?,? )+)and (\d+) more", plain(read(document))):
         names = NAME.findall(named)
-        ending = names[-1].split("-")[-1]
-        there = len(re.findall(rf"^pub [\w-]+-{ending} :", laws, re.MULTILINE))
+        ending = re.split("[-_]", names[-1])[-1]
+        there = len(re.findall(rf"^pub [\w-]+[-_]{ending} :", laws, re.MULTILINE))
         seen["counts"] += 1
         if there != len(names) + int(more):
             complain(document, f"there are {there} laws that end with -{ending}")
