@@ -49,9 +49,9 @@ def contracts_section(reached, blocks):
     said = "\n".join(blocks.contract(call) for call in reached.calls)
     return f"""<section id="contracts">
 <h2>The contracts of the calls</h2>
-<p>What the prover shows of each call of 7.1: that it answers, and leaves in a lent buffer, what its clauses say. <code>r</code> is what it
-answers; <code>now (x .entry)</code> and <code>now (x .exit)</code> are the bytes of x before the call and after it; the corners
-<code>⌜ ⌝</code> hold what is said. <code>&amp;[u8]</code> is a row of bytes that is read, <code>&amp;mut [u8]</code> a lent buffer.</p>
+<p>What the prover shows of each call of 7.1: that it answers, and leaves in a lent buffer, what its clauses say. <code>result</code> is
+what it answers; <code>x.now</code> are the bytes of x that is read, <code>x.old</code> and <code>x.new</code> those of a lent buffer before
+the call and after it. <code>&amp;[u8]</code> is a row of bytes that is read, <code>&amp;mut [u8]</code> a lent buffer.</p>
 {said}
 </section>"""
 

@@ -1,23 +1,31 @@
-"""What the gate, `make test`, left in build/gate: a file for each step with all that it printed, `begin` and `end`."""
+"""What the gate, `make test`, left in build/gate: a file for each step with all that it printed, `begin` and `end`; and how many functions
+each crate has, which the sources say: of a crate that an earlier run proved `rt ci` says no more than that."""
 import re
 from collections import namedtuple
 from pathlib import Path
 
+from definitions.files import crates_of, files_of
 from reading import fact, facts, lines_of, only, require
 
-Crate = namedtuple("Crate", "name functions axioms edits seconds")
+Crate = namedtuple("Crate", "name functions edits kept")  # kept: an earlier run on this machine proved it
 Call = namedtuple("Call", "name form answers")  # answers: how many of each, 0 for accepted, else the number of the refusal
 Wrong = namedtuple("Wrong", "is_of_five program edit law file by")
 
+ROOT = Path(__file__).resolve().parent.parent
+FUNCTION = re.compile(r"^ *(?:pub(?:\(crate\))? )?(?:const |extern \"C\" )*fn \w+", re.MULTILINE)
 # Only a program and an archive have a target, and only their lines count axioms, where there are any.
-LOGIC = re.compile(r"logic=proved functions=(\d+)(?: axioms=(\d+))?(?: target=\S+)? sum=.*")
-AXIOMS = re.compile(r"axioms \w+: (.*) \(\d+ of the \d+ declared\)")
-PROVED = re.compile(r"rt: (\w+) proved \((\d+) s\)")
-REFUSED = re.compile(r"rt: must-fail ((\w+)/\w+): refused, as it must be \(.*\)")
+LOGIC = re.compile(r"logic=proved functions=(\d+)(?: axioms=(\d+))?(?: target=(\S+))?(?: cpu=\S+)? sum=.*")
+AXIOM = re.compile(r"  (\w+(?:::\w+)+) +reached")
+PROVED = re.compile(r"rt: (\w+) (proved|is kept: .*)")
+REFUSED = re.compile(r"rt: must-fail ((\w+)/\w+)\.edit: refused, as it must be\b.*")
 ASKED = re.compile(r"(\w+)(, long)? +accepted (\d+), refused((?:  \d+: \d+)+)")
 WRONG = re.compile(r"(five|refused): (.+?) \| (\w+/\w+) \| (\S+) in (crates/\S+) \| (.+)")
 # The steps that tell what they found in one line, their last.
 TOLD = ("total", "documents", "header", "archive", "example", "programs", "first", "readme")
+
+
+def functions_of(crate):
+    return sum(len(FUNCTION.findall(path.read_text(encoding="utf-8"))) for path in files_of(ROOT, crate, "src", ".rt"))
 
 
 class Gate:
@@ -30,7 +38,7 @@ class Gate:
         self.seconds = int(fact(facts(end), "time", end)) - int(self.begin["time"])
         self.toolchain, = only(r"(rattle\S* .*)", *self.step("version"))
         self.read_proofs()
-        self.archive_axioms = self.verdict(*self.step("lib"))[1]
+        self.archive_axioms, self.program_axioms = self.axioms("lib"), self.axioms("program")
         self.read_comparisons()
         self.read_traces()
         self.read_wrong_programs()
@@ -41,36 +49,43 @@ class Gate:
         return lines_of(path), path
 
     def read_proofs(self):
-        """A crate's lines end with: rt: NAME proved (N s). Those on the edits come after all crates."""
+        """A crate's lines end with: rt: NAME proved. Of one that an earlier run proved there is one line. Those on the edits come later."""
         lines, path = self.step("ci")
-        crates, edits, before = {}, {}, []
+        kept, edits, before = {}, {}, []
         for line in lines:
             before.append(line)
             if match := PROVED.fullmatch(line):
-                crates[match[1]] = *self.verdict(before, path), int(match[2])
+                kept[match[1]] = match[2] != "proved"
+                if not kept[match[1]]:
+                    self.check_functions(match[1], before, path)
                 before = []
             elif match := REFUSED.fullmatch(line):
                 edits.setdefault(match[2], set()).add(match[1])
-        self.crates = [Crate(name, functions, axioms, len(edits.get(name, ())), seconds)
-                       for name, (functions, axioms, seconds) in crates.items()]
+        self.crates = [Crate(name, functions_of(name), len(edits.get(name, ())), kept[name]) for name in crates_of(ROOT) if name in kept]
         self.functions = sum(crate.functions for crate in self.crates)
         self.refused_edits = set().union(*edits.values())
         self.edits = len(self.refused_edits)
         self.check_proofs(lines, path)
 
     @staticmethod
-    def verdict(lines, path):
-        """How many functions were proved, and the names of the axioms that this rests on."""
-        functions, axioms = only(LOGIC.pattern, lines, path)
-        named = [name for match in map(AXIOMS.fullmatch, lines) if match for name in match[1].split(", ")]
-        require(len(named) == int(axioms or 0), f"{path}: axioms={axioms}, and named are {named}")
-        return int(functions), named
+    def check_functions(name, lines, path):
+        functions, *_ = only(LOGIC.pattern, lines, path)
+        require(int(functions) == functions_of(name), f"{path}: {functions} functions of {name} are proved, it has {functions_of(name)}")
+
+    def axioms(self, step):
+        """The names of the axioms that the archive or the program rests on."""
+        lines, path = self.step(step)
+        counts = {int(match[2] or 0) for match in map(LOGIC.fullmatch, lines) if match and match[3]}
+        named = sorted({match[1] for match in map(AXIOM.fullmatch, lines) if match})
+        require(counts == {len(named)}, f"{path}: axioms={sorted(counts)}, and named are {named}")
+        return named
 
     def check_proofs(self, lines, path):
         """What was counted line by line is what the gate itself says at its end."""
-        crates, edits = map(int, only(r"rt: ok, (\d+) crates proved, (\d+) must-fail edits refused", lines, path))
+        edits, = map(int, only(r"rt: ok; .*; must-fail edits: (\d+) refused(?:, \d+ of them only by a limit)?; .*", lines, path))
         passed, failed = map(int, only(r"(\d+) passed, (\d+) failed", lines[-1:], path))
-        require(len(self.crates) == crates, f"{path}: {len(self.crates)} crates are found, {crates} are said")
+        crates = len(crates_of(ROOT))
+        require(len(self.crates) == crates, f"{path}: {len(self.crates)} crates are found, there are {crates}")
         require(self.edits == edits, f"{path}: {self.edits} refused edits are found, {edits} are said")
         require(passed == crates + edits and failed == 0, f"{path}: the last line is: {lines[-1]}")
         self.last = lines[-1]
@@ -98,7 +113,7 @@ class Gate:
         require(self.trace_differences == 0, f"{path}: there are differences")
 
     def read_wrong_programs(self):
-        """What docs/INSPECTION.md says of wrong programs, as tests/documents found it in the logs of their refusals."""
+        """What docs/INSPECTION.md says of wrong programs, as tests/documents found it in what the gate said of them."""
         lines, path = self.step("documents")
         self.wrong = [Wrong(match[1] == "five", *match.groups()[1:]) for match in map(WRONG.fullmatch, lines) if match]
         five = {wrong.program.partition(":")[0] for wrong in self.wrong if wrong.is_of_five}

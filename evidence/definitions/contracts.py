@@ -1,4 +1,5 @@
-"""The functions of crates/*/src that other crates or C can call, and what their `ensures` clauses speak of."""
+"""The functions of crates/*/src that other crates or C can call, and what their `ensures` clauses speak of. The exports of prushgoli_c are
+none: they are the calls for C of prushgoli once more, with their clauses, which tests/total sees to."""
 import re
 from collections import namedtuple
 
@@ -6,7 +7,8 @@ from definitions.files import crates_of, file_of, files_of
 from definitions.scope import Scope
 from reading import lines_of
 
-FUNCTION = re.compile(r"^( *)pub (?:const |extern \"C\" )*fn (\w+)", re.MULTILINE)
+FUNCTION = re.compile(r"^( *)pub (?:const )?fn (\w+)", re.MULTILINE)
+EXPORTS = "prushgoli_c"
 CLAUSE = re.compile(r"\b(ensures|requires)\b[^{]*\{|\{")
 
 # its name, crate::file::Type::function without what is not there; its lines up to the body; the places that its clauses name
@@ -45,4 +47,5 @@ def calls_in(root, crate, path):
 
 
 def calls(root):
-    return [call for crate in crates_of(root) for path in files_of(root, crate, "src", ".rt") for call in calls_in(root, crate, path)]
+    return [call for crate in crates_of(root) if crate != EXPORTS
+            for path in files_of(root, crate, "src", ".rt") for call in calls_in(root, crate, path)]

@@ -80,7 +80,7 @@ def read_specs(crate, file, path):
             continue
         names, parts = declared(block)
         require(names, f"{path}: nothing is declared by: {block[0]}")
-        own.update({word: Place(crate, "specs", file, name) for name in names for word in (name, name.strip("_"))})
+        own.update({word: Place(crate, "specs", file, name) for name in names for word in (name, name.strip("◌"))})
         own.update({part: Place(crate, "specs", file, name) for part, name in parts.items()})
         found.append((names, group, comment, block))
     scope.names.update(own)
@@ -103,14 +103,16 @@ def read_src(crate, file, path):
     """The enums and structs of a source file."""
     lines = lines_of(path)
     starts = {at: found[1] for at, line in enumerate(lines) if (found := re.match(r"pub(?:\(crate\))? (?:enum|struct) (\w+) \{$", line))}
-    types = {found[2]: place_of(crate, found[1], found[2]) for line in lines if (found := re.match(r"use (\S+)::(\w+);", line))}
+    types = {name: place_of(crate, found[1], name) for line in lines if (found := re.match(r"use (\S+)::\{?([\w, ]+)\}?;", line))
+             for name in found[2].split(", ")}
     types |= {name: Place(crate, "src", file, name) for name in starts.values()}
     for at, name in starts.items():
         first, code = at, lines[at:lines.index("}", at) + 1]
-        while first and lines[first - 1].startswith("//"):
+        while first and lines[first - 1].startswith(("//", "#[")):
             first -= 1
+        above = [line for line in lines[first:at] if line.startswith("//")]
         uses = frozenset(types[used] for used in re.findall(r"\w+", bare(code, "//")) if used in types)
-        yield Definition(crate, "src", file, (name,), at, spoken(lines[first:at], "//"), unmarked(code), marks(lines[first:at] + code),
+        yield Definition(crate, "src", file, (name,), at, spoken(above, "//"), unmarked(code), marks(above + code),
                          uses, frozenset())
 
 
@@ -122,7 +124,7 @@ def place_of(crate, module, name):
 
 def crates_of(root):
     """The crates in the order of crates.txt: each behind those that it knows."""
-    return [line.split(":")[0] for line in lines_of(root / "crates.txt") if ":" in line]
+    return [line.split(":")[0].split()[0] for line in lines_of(root / "crates.txt") if ":" in line]
 
 
 def files_of(root, crate, folder, ending):

@@ -1,10 +1,10 @@
 """What the names of a file lead to, by its `use` lines; in src/ by its `ghost use` lines.
 
-use Rattle·CRATE.specs.FILE.{a, b}                  definitions of CRATE; in CRATE itself Rattle·CRATE·specs.specs.FILE
-use Rattle·CRATE.specs.FILE as f                    f.a
-use Rattle·CRATE.specs.declared.file.Type.{Type}    an enum or struct of CRATE's src/file.rt; without file, of src/lib.rt
-use Rattle·CRATE.specs.declared.Type.the-variants.{A, B}    its variants, which lead to it
-All other names are words of the toolchain. An operator, _at_, stands between what it takes, as at.
+use Rattle.CRATE.specs.FILE.{a, b}                  definitions of CRATE
+use Rattle.CRATE.specs.FILE as f                    f.a
+use Rattle.CRATE.specs.declared.file.Type.{Type}    an enum or struct of CRATE's src/file.rt; without file, of src/lib.rt
+use Rattle.CRATE.specs.declared.Type.TheVariants.{A, B}     its variants, which lead to it
+All other names are words of the toolchain, whose own crates are std and core. An operator, ◌at◌, stands between what it takes, as at.
 """
 import re
 from collections import namedtuple
@@ -14,8 +14,8 @@ from reading import require
 Place = namedtuple("Place", "crate folder file name")
 
 USE = re.compile(r"(?:ghost )?use ([^\s{};]+?)(?:\.\{([^{}]*)\}| as (\S+?))?;?")
-OURS = re.compile(r"Rattle·(\w+)(?:·\w+)?\.(specs|proofs)\.(.+)")
-TOKEN = re.compile(r"[^\s(){};,⌜⌝]+")
+OURS = re.compile(r"Rattle\.(?!(?:std|core)\.)(\w+)\.(specs|proofs)\.(.+)")
+TOKEN = re.compile(r"[^\s(){};,]+")
 
 
 def use_lines(lines):
@@ -43,9 +43,9 @@ class Scope:
         for name in filter(None, map(str.strip, (names or "").split(","))):
             name, _, here = name.partition(" as ")
             if ours:
-                self.names[(here or name).strip("_")] = self.names[here or name] = self.place(ours, name)
+                self.names[(here or name).strip("◌")] = self.names[here or name] = self.place(ours, name)
             else:
-                self.words.add(name.strip("_"))
+                self.words.add(name.strip("◌"))
         if ours and names is None:
             self.modules[other or module.split(".")[-1]] = ours
 
@@ -54,7 +54,7 @@ class Scope:
         crate, folder, module = ours.groups()
         if not module.startswith("declared."):
             return Place(crate, folder, module.replace(".", "/"), name)
-        *files, kind = module.removeprefix("declared.").removesuffix(".the-variants").split(".")
+        *files, kind = module.removeprefix("declared.").removesuffix(".TheVariants").split(".")
         return Place(crate, "src", "/".join(files) or "lib", kind)
 
     def used(self, text):
