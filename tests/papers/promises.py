@@ -23,7 +23,7 @@ def entries(document):
 
 def named_in(document, folder, part):
     """`crate/File: names`: each of them stands in that file. A remark in brackets may follow a name."""
-    found = re.fullmatch(r"([a-z]+)/([A-Z]\w+): (`[^` ]+`(?: \([^()]*\))?(?:,? (?:`[^` ]+`|and \d+ more)(?: \([^()]*\))?)*)", part)
+    found = re.fullmatch(r"([a-z_]+)/([A-Z]\w+): (`[^` ]+`(?: \([^()]*\))?(?:,? (?:`[^` ]+`|and \d+ more)(?: \([^()]*\))?)*)", part)
     if not found:
         complain(document, f"not read as names of a file: {part}")
         return
