@@ -70,7 +70,7 @@ evidence: build/gate/end lib
 # A trace is left out: it would be made anew from its .hex, and be newer than the gate. So is the folder bench: make takes
 # it for the goal.
 build/gate/end: $(filter-out %.trace bench,$(shell evidence/tested folders))
-	@echo 'make evidence: there is no record of the gate on these sources; it runs first, fifteen to thirty-five minutes' >&2
+	@echo 'make evidence: there is no record of the gate on these sources; it runs first' >&2
 	@$(MAKE) test
 
 # Not part of the gate: it measures.
