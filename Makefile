@@ -36,7 +36,7 @@ test: SHELL = /bin/bash -o pipefail
 test:
 	@$(rt)
 	@. tests/x86-64 && x86_need 'command -v python3' python3
-	@rm -rf build && mkdir -p build/gate
+	@mkdir -p build/gate
 	@{ evidence/source && echo "machine $$(uname -m)" && echo "cores $$(nproc)" && date +'time %s'; } >build/gate/begin
 	rt version $(keep)/version
 	tests/total $(keep)/total
@@ -46,6 +46,7 @@ test:
 	@edits=$$(find crates -path '*/must-fail/*.edit' | wc -l); \
 	grep -Eq "^rt: ok; .*; must-fail edits: $$edits refused(, [0-9]+ of them only by a limit)?;" build/gate/ci || \
 	{ echo "make test: not all of the $$edits must-fail edits were refused" >&2; exit 1; }
+	@find build -mindepth 1 -maxdepth 1 ! -name gate -exec rm -rf {} +
 	tests/documents build/gate/ci $(keep)/documents
 	$(MAKE) lib $(keep)/lib
 	$(MAKE) build/bin/trace $(keep)/program
