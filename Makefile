@@ -25,7 +25,8 @@ quoted = '$(subst ','\'',$(value $(1)))'
 
 rt = command -v rt >/dev/null || { echo 'make $@: the Rattle toolchain is missing (no command rt)' >&2; exit 1; }
 
-# What a step of the gate prints is kept too, in build/gate: the record that `make evidence` shows.
+# What a step of the gate prints is kept too, in build/gate: the record that `make evidence` shows. Until the gate has ended, `end` is
+# empty, and older than every source.
 keep = 2>&1 | tee build/gate
 
 # What needs no proof comes first. `rt ci` proves every crate from nothing, or knows that it did so before on this machine, with the
@@ -36,7 +37,7 @@ test: SHELL = /bin/bash -o pipefail
 test:
 	@$(rt)
 	@. tests/x86-64 && x86_need 'command -v python3' python3
-	@mkdir -p build/gate
+	@mkdir -p build/gate && : >build/gate/end && touch -d @0 build/gate/end
 	@{ evidence/source && echo "machine $$(uname -m)" && echo "cores $$(nproc)" && date +'time %s'; } >build/gate/begin
 	rt version $(keep)/version
 	tests/total $(keep)/total
