@@ -12,11 +12,10 @@ use base.Fml.{Lft, Share}
 use mir.Syntax.{Lifetime, named, w8, w32}
 use mir.Val.{Val}
 use prog.Memory.{Memory}
-use ghost.Model.{𝓤, H}
+use ghost.Model.{𝓤, H, model}
 use types.Logic.{sem}
 use types.Kit.{‵, ◌$◌, ◌∵◌, !, qed, fsplit, fjoin, drop as let_go, done as shown}
 use contract.BorrowModel.{logic₀}
-use contract.Closed.{model⁺}
 use contract.Lifetimes.{Lfts, Shares, toks}
 use contract.Monad.{guard→fact}
 use contract.Adequate.{sat_weaken, sat_fact, sat_⇛}
@@ -29,7 +28,7 @@ use borrow.Rule.Slice.Know.{AllWt, shs_known}
 use borrow.Rule.Slice.Shared.{OwnH}
 use borrow.Table.Referent.{f_int}
 use Rattle.bits.specs.Below.{Below}
-use Rattle.demands.specs.Runs.{Assertion, ◌∗◌, ◌⊨◌, Made}
+use Rattle.demands.specs.Runs.{A, Assertion, ◌∗◌, Has, Made}
 use Rattle.prushgoli.proofs.prushgoli_encode.Kinds as encode
 use Rattle.prushgoli.proofs.prushgoli_decode.Kinds as decode
 use Rattle.prushgoli.proofs.prushgoli_make_frame.Kinds as make-frame
@@ -57,7 +56,7 @@ module _ (ℓ : Lifetime) (κ : Lft) (q : Share) (x : Bor (List ℕ)) (vs : List
   Slice = sem logic₀ ((ShrSlice ℓ κ u8).own_val x vs)
 
   abbrev Token : Assertion
-  Token = logic₀.A.lft κ q
+  Token = A.lft κ q
 
   abbrev Within : Assertion
   Within = sem logic₀ (OwnH logic₀ (f_int w8) κ q x.ref_ptr.0 x.ref_ptr.1 x.now)
@@ -65,17 +64,17 @@ module _ (ℓ : Lifetime) (κ : Lft) (q : Share) (x : Bor (List ℕ)) (vs : List
   forget : Slice ⊢ Within
   forget = qed logic₀ (‵ ((ShrSlice ℓ κ u8).own_val x vs) ∷ []) ∵ fsplit ! $ fsplit ! $ let_go ! $ fjoin ! $ shown !
 
-  pub bytes-lent : (σ : Memory) (F : Assertion) → σ ⊨ (Slice ∗ Token) ∗ F → Below 256 x.now
+  pub bytes-lent : (σ : Memory) (F : Assertion) → Has σ ((Slice ∗ Token) ∗ F) → Below 256 x.now
   bytes-lent σ F s =
       let xs : List ℕ = x.now in
       let held : Assertion = guard 𝓤 (AllWt (f_int w8) xs) (Within ∗ Token) in
       let known : Slice ∗ Token ⊢ H.⇛ held
       = via 𝓤 (Within ∗ Token) (mono_l 𝓤 Token forget) (shs_known logic₀ (f_int w8) κ q x.ref_ptr.0 x.ref_ptr.1 xs) in
       ∥∥₁_elim
-      (sat_fact 𝓤 H model⁺ σ (held ∗ F) (AllWt (f_int w8) xs)
-      (via 𝓤 (held ∗ F) (snd∗ 𝓤 (model⁺.mem σ) (held ∗ F))
+      (sat_fact 𝓤 H model σ (held ∗ F) (AllWt (f_int w8) xs)
+      (via 𝓤 (held ∗ F) (snd∗ 𝓤 (model.mem σ) (held ∗ F))
       (via 𝓤 held (fst∗ 𝓤 held F) (guard→fact 𝓤 (AllWt (f_int w8) xs) (Within ∗ Token))))
-      (sat_⇛ 𝓤 H model⁺ σ held F (sat_weaken 𝓤 H model⁺ σ (mono_l 𝓤 F known) s)))
+      (sat_⇛ 𝓤 H model σ held F (sat_weaken 𝓤 H model σ (mono_l 𝓤 F known) s)))
       (below-prop 256 xs) (below xs)
 
 -- ---- as the first parameter of a call, and as the second: out of all that there is on entry
@@ -90,20 +89,20 @@ module _ (n : ℕ) (κs : Lfts (suc n)) (qs : Shares (suc n)) (Ts : List RattleT
   abbrev All : (Us : List RattleType) → Denots Us → Valss Us → Assertion
   All Us i vs = sem logic₀ (owns Us i vs)
 
-  first-bytes : (i : Denots (Bytes ∷ Ts)) (vs : Valss (Bytes ∷ Ts)) (σ : Memory) (F : Assertion) → σ ⊨ (Tokens ∗ All (Bytes ∷ Ts) i vs) ∗ F
+  first-bytes : (i : Denots (Bytes ∷ Ts)) (vs : Valss (Bytes ∷ Ts)) (σ : Memory) (F : Assertion) → Has σ ((Tokens ∗ All (Bytes ∷ Ts) i vs) ∗ F)
       → Below 256 i.0.now
   first-bytes i vs σ F s =
-      let T : Assertion = logic₀.A.lft κs.0 qs.0 in
+      let T : Assertion = A.lft κs.0 qs.0 in
       let S : Assertion = sem logic₀ (Bytes.own_val i.0 vs.0) in
       let here : Tokens ∗ All (Bytes ∷ Ts) i vs ⊢ S ∗ T
       = via 𝓤 (T ∗ S) (mono∗ 𝓤 (fst∗ 𝓤 T (toks logic₀ n κs.1 qs.1)) (fst∗ 𝓤 S (All Ts i.1 vs.1))) (comm∗ 𝓤 T S) in
-      bytes-lent (named 0) κs.0 qs.0 i.0 vs.0 σ F (sat_weaken 𝓤 H model⁺ σ (mono_l 𝓤 F here) s)
+      bytes-lent (named 0) κs.0 qs.0 i.0 vs.0 σ F (sat_weaken 𝓤 H model σ (mono_l 𝓤 F here) s)
 
   second-bytes : (U : RattleType) (i : Denots (U ∷ Bytes ∷ Ts)) (vs : Valss (U ∷ Bytes ∷ Ts)) (σ : Memory) (F : Assertion)
-      → σ ⊨ (Tokens ∗ All (U ∷ Bytes ∷ Ts) i vs) ∗ F → Below 256 i.1.0.now
+      → Has σ ((Tokens ∗ All (U ∷ Bytes ∷ Ts) i vs) ∗ F) → Below 256 i.1.0.now
   second-bytes U i vs σ F s =
       first-bytes i.1 vs.1 σ F
-      (sat_weaken 𝓤 H model⁺ σ (mono_l 𝓤 F (mono_r 𝓤 Tokens (snd∗ 𝓤 (sem logic₀ (U.own_val i.0 vs.0)) (All (Bytes ∷ Ts) i.1 vs.1)))) s)
+      (sat_weaken 𝓤 H model σ (mono_l 𝓤 F (mono_r 𝓤 Tokens (snd∗ 𝓤 (sem logic₀ (U.own_val i.0 vs.0)) (All (Bytes ∷ Ts) i.1 vs.1)))) s)
 
 -- ---- at the calls for C
 

@@ -1,6 +1,6 @@
 -- What is said of every public call on the toolchain's machine, in the words of the toolchain's logic at its closed model: an assertion
--- speaks of memory and of who may read and write it, P ∗ Q of two separate parts, and σ ⊨ P says that P holds of the memory σ. Assumes
--- nothing. [7.8]
+-- speaks of memory and of who may read and write it, P ∗ Q of two separate parts, and σ ⊨ P says that P holds of the memory σ beside the
+-- token that the one thread runs by. Assumes nothing. [7.8]
 use Rattle.std.specs.Prelude.{◌≡◌, List, [], ◌∷◌, ℕ}
 use mir.Val.{Val}
 use base.Logic.{SProp, sep}
@@ -8,7 +8,8 @@ use prog.Memory.{Memory}
 use prog.Machine.{done}
 use prog.Routine.{Routine, Env, Callee, step}
 use prog.Wired.{Code, Wired}
-use ghost.Model.{𝓤, H}
+use ghost.Atoms.{Atoms}
+use ghost.Model.{𝓤, H, model}
 use types.Logic.{sem}
 use contract.BorrowModel.{logic₀}
 use contract.Closed.{model⁺}
@@ -20,6 +21,9 @@ use denote.Triple.Spec.{Back}
 use denote.Triple.Clauses.{Lasts, at_exit, lasts}
 use borrow.Fn.Kinds.{ParamKind, ResultKind, In, Out, sig_of, ended_of, res_t}
 
+abbrev pub A : Atoms 𝓤
+A = logic₀.A
+
 abbrev pub Assertion : Type 2
 Assertion = SProp 𝓤
 
@@ -30,6 +34,10 @@ P ∗ Q = sep 𝓤 P Q
 infix 26 ◌⊨◌
 abbrev pub ◌⊨◌ : Memory → Assertion → Type 1
 σ ⊨ P = Satisfies 𝓤 H model⁺ σ P
+
+-- P holds of the memory, with no token beside it
+abbrev pub Has : Memory → Assertion → Type 1
+Has σ P = Satisfies 𝓤 H model σ P
 
 module _ {n : ℕ} (parameters : List (ParamKind n)) (result : ResultKind n) where
   -- a call: n lifetimes of what is lent, the shares of them, their bounds, the arguments, and the machine's values for these
@@ -47,7 +55,7 @@ module _ {n : ℕ} (parameters : List (ParamKind n)) (result : ResultKind n) whe
   abbrev pub Made : (κs : Lfts n) → Args (sig_of n parameters result) κs → Type 2
   Made κs i =
       (qs : Shares n) × (vs : Vals (sig_of n parameters result) κs) × (σ : Memory) × (Beside : Assertion)
-      × (σ ⊨ on_entry logic₀ (sig_of n parameters result) κs qs i vs ∗ Beside)
+      × Has σ (on_entry logic₀ (sig_of n parameters result) κs qs i vs ∗ Beside)
 
   abbrev pub Answer : Call → Type 0
   Answer c = (res_t result c.0).Denot
