@@ -21,12 +21,16 @@ use Rattle.field.specs.Coded.{padding_number}
 pub padding-length : (first count : ℕ) → length (padding first count) ≡ count
 unfolding padding
 padding-length first zero = refl
-padding-length first (suc count) = ap suc (padding-length (1 - first) count)
+padding-length first (suc count) =
+    let rest : (bit : ℕ) → length (padding bit count) ≡ count = λ bit. padding-length bit count in
+    ap suc (rest _)
 
 pub padding-below : (first count : ℕ) → first < 2 → Below 2 (padding first count)
 unfolding padding
 padding-below first zero h = tt
-padding-below first (suc count) h = (h, padding-below (1 - first) count (omega arith))
+padding-below first (suc count) h =
+    let rest : (bit : ℕ) → bit < 2 → Below 2 (padding bit count) = λ bit g. padding-below bit count g in
+    (h, rest _ (omega arith))
 
 pub padding-at : (first count i : ℕ) → first < 2 → i < count → get_or (padding first count) i 0 ≡ (first + i) % 2
 unfolding padding
