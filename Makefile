@@ -12,7 +12,7 @@ help:
 	@echo 'make lib    prove and build the library for C: libprushgoli.a, prushgoli.h and prushgoli.pc in build/'
 	@echo 'make install [PREFIX=/usr/local] [DESTDIR=]   install these three in lib/ and include/, and the programs'
 	@echo '            prushgoli-trace and prushgoli-hex in bin/; make uninstall removes them'
-	@echo 'make test   run every test and prove every crate from nothing; the last line is: N passed, 0 failed'
+	@echo 'make test   run every test, and prove every crate that was not proved on this machine; last line: N passed, 0 failed'
 	@echo 'make evidence   two pages for the inspector, in build/evidence/: index.html, runs and what the gate found, and'
 	@echo '            definitions.html, the rules of the format beside the definitions; runs the gate where its record is old'
 	@echo 'make bench  count the instructions of each call, beside those of a plain C implementation'
