@@ -1,5 +1,4 @@
--- `crc::bring_down` meets its contract. The invariant: the register is the CRC of the front and of the bits brought down, so
--- that with those that are left it leads to the CRC of all. Assumes nothing.
+-- `crc::bring_down` meets its contract. Assumes nothing.
 use mathlib.Core.Path.{refl, sym, ap, ◌∙◌}
 use mathlib.Core.List.{List, ◌++◌, append_assoc, append-nil}
 use Prim.Native.Nat.{ℕ, ◌-◌, ◌*◌}

@@ -1,5 +1,5 @@
--- `crc::bring_down` meets its contract. The invariant: the register is the CRC of the front and of the bits brought down, so
--- that with those that are left it leads to the CRC of all. Assumes nothing.
+-- `crc::bring_down`, the invariant: the register is the CRC of the front and of the bits brought down, so that with those that are
+-- left it leads to the CRC of all. Assumes nothing.
 use mathlib.Core.Path.{◌≡◌}
 use mathlib.Core.List.{List, ◌++◌}
 use Prim.Native.Nat.{ℕ, ◌*◌, ◌≤◌}

@@ -8,7 +8,11 @@ pub returns-then-n-eq1 : goal.returns-then-n-eq1
 returns-then-n-eq1 c = record { answer = sym (decode-one _ _ c.if-n-eq1.true); memory = refl }
 
 pub returns-then-n-eq0 : goal.returns-then-n-eq0
-returns-then-n-eq0 c = let empty = decode-empty _ _ c.if-n-eq0.true in record { answer = sym empty.0; memory = rw empty.1 }
+returns-then-n-eq0 c =
+    let empty = decode-empty _ _ c.if-n-eq0.true in record {
+      answer = sym empty.0;
+      memory = rw empty.1;
+    }
 
 pub returns-then-n-gt8 : goal.returns-then-n-gt8
 returns-then-n-gt8 c = record { answer = sym (decode-long _ _ c.if-n-gt8.true); memory = refl }

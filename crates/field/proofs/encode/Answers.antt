@@ -5,7 +5,15 @@ use Rattle.field.proofs.EncodeAnswers.{encode-long, encode-empty}
 use Rattle.field.proofs.encode.Goals as goal
 
 pub returns-then-size-gt7 : goal.returns-then-size-gt7
-returns-then-size-gt7 c = record { answer = sym (encode-long _ _ c.if-size-gt7.true); memory = refl }
+returns-then-size-gt7 c =
+    record {
+      answer = sym (encode-long _ _ c.if-size-gt7.true);
+      memory = refl;
+    }
 
 pub returns-then-size-eq0 : goal.returns-then-size-eq0
-returns-then-size-eq0 c = let empty = encode-empty _ _ c.if-size-eq0.true in record { answer = sym empty.0; memory = rw empty.1 }
+returns-then-size-eq0 c =
+    let empty = encode-empty _ _ c.if-size-eq0.true in record {
+      answer = sym empty.0;
+      memory = rw empty.1;
+    }

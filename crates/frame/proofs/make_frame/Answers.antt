@@ -37,7 +37,10 @@ pub returns-then-line-room : goal.returns-then-line-room
 returns-then-line-room c =
     let frame = parts (goal.at.returns-then-line-room c).In-Frame in
     let room = length c.args.line.now in
-    let little = subst (λ (k : ℕ). room < k) c.room.ensures c.if-line-room.true in record { answer = sym (make-short _ _ _ frame.allowed frame.short little); memory = refl }
+    let little = subst (λ (k : ℕ). room < k) c.room.ensures c.if-line-room.true in record {
+      answer = sym (make-short _ _ _ frame.allowed frame.short little);
+      memory = refl;
+    }
 
 -- room enough, by the test
 roomy : (c : Else-line-room) → room_for c.args.identifier ≤ length c.args.line.now
@@ -52,8 +55,14 @@ pub returns-else-line-room : goal.returns-else-line-room
 returns-else-line-room c =
     let frame = parts (goal.at.returns-else-line-room c).In-Frame in
     let room = roomy (goal.at.returns-else-line-room c).Else-line-room in
-    let old = c.args.line.now in record { answer = ap Length (c.whole.ensures.length ∙ ap length frame.line-is) ∙ sym (make-accepts _ _ _ frame.allowed frame.short room); memory = c.whole.ensures.memory ∙ ap (λ (l : List ℕ). l ++ drop (length l) old) frame.line-is }
+    let old = c.args.line.now in record {
+      answer = ap Length (c.whole.ensures.length ∙ ap length frame.line-is) ∙ sym (make-accepts _ _ _ frame.allowed frame.short room);
+      memory = c.whole.ensures.memory ∙ ap (λ (l : List ℕ). l ++ drop (length l) old) frame.line-is;
+    }
 
 pub returns-in-Refused : goal.returns-in-Refused
 returns-in-Refused c =
-    let args = c.args in record { answer = sym ((framed (goal.at.returns-in-Refused c).After-frame _ c.in-Refused.is).1 _); memory = sym (refused-keeps (payload_line args.identifier args.payload.now) _ c.in-Refused.refusal) }
+    let args = c.args in record {
+      answer = sym ((framed (goal.at.returns-in-Refused c).After-frame _ c.in-Refused.is).1 _);
+      memory = sym (refused-keeps (payload_line args.identifier args.payload.now) _ c.in-Refused.refusal);
+    }

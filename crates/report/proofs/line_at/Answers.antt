@@ -9,7 +9,11 @@ use Rattle.report.proofs.line_at.Goals as goal
 use Rattle.report.proofs.line_at.Goals.{After-record_at}
 
 pub returns-then-text-lt-LINE_ROOM : goal.returns-then-text-lt-LINE_ROOM
-returns-then-text-lt-LINE_ROOM c = record { answer = sym (reported-short _ _ _ _ c.if-text-lt-LINE_ROOM.true); memory = refl }
+returns-then-text-lt-LINE_ROOM c =
+    record {
+      answer = sym (reported-short _ _ _ _ c.if-text-lt-LINE_ROOM.true);
+      memory = refl;
+    }
 
 -- what stands at the offset lies within the trace
 inside : (c : After-record_at) (r : Record) → c.record_at.result ≡ r →

@@ -1,5 +1,4 @@
--- `bits::bytes::load` meets its contract. The invariant: the bytes that are left, behind the number so far, give the whole number;
--- and the number so far has i bytes. Assumes nothing.
+-- `bits::bytes::load` meets its contract. Assumes nothing.
 use mathlib.Core.Path.{◌≡◌, refl, sym, ◌∙◌}
 use Prim.Native.Nat.{ℕ, suc, ◌^◌, ◌≤◌, ◌<◌}
 use native.Mathlib.Nat.{pow-le-pow_right}

@@ -1,5 +1,5 @@
--- `bits::bytes::load` meets its contract. The invariant: the bytes that are left, behind the number so far, give the whole number;
--- and the number so far has i bytes. Assumes nothing.
+-- `bits::bytes::load`, the invariant: the bytes that are left, behind the number so far, give the whole number; and the number so far
+-- has i bytes. Assumes nothing.
 use mathlib.Core.Path.{◌≡◌}
 use Prim.Native.Nat.{◌-◌, ◌^◌, ◌≤◌, ◌<◌}
 use lib.ListN.{length, drop}

@@ -1,5 +1,4 @@
--- `bits::bytes::store` meets its contract. The invariant: what is written, with the bytes that are left, makes the whole result.
--- Assumes nothing.
+-- `bits::bytes::store` meets its contract. Assumes nothing.
 use mathlib.Core.Path.{◌≡◌, refl, sym, ap, ◌∙◌}
 use mathlib.Core.List.{List, ◌++◌}
 use Prim.Native.Nat.{ℕ, ◌+◌, ◌-◌}

@@ -1,5 +1,4 @@
--- `bits::bytes::store` meets its contract. The invariant: what is written, with the bytes that are left, makes the whole result.
--- Assumes nothing.
+-- `bits::bytes::store`, the invariant: what is written, with the bytes that are left, makes the whole result. Assumes nothing.
 use mathlib.Core.Path.{◌≡◌}
 use mathlib.Core.List.{◌++◌}
 use Prim.Native.Nat.{◌*◌, ◌-◌, ◌≤◌}

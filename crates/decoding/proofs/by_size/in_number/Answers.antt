@@ -41,4 +41,8 @@ returns-in-8 c =
     rw n c.fitting-in-8.ensures
 
 pub returns-in_default : goal.returns-in_default
-returns-in_default c = record { answer = sym (number-none c.args.n _ _ (λ few. omega arith)); memory = refl }
+returns-in_default c =
+    record {
+      answer = sym (number-none c.args.n _ _ (λ few. omega arith));
+      memory = refl;
+    }

@@ -53,4 +53,9 @@ returns-in-Payload c =
     }
 
 pub returns-in-Refused : goal.returns-in-Refused
-returns-in-Refused c = record { answer = sym (read (goal.at.returns-in-Refused c).After-read _ c.in-Refused.is); memory = sym (refused-keeps (payload_of (field (goal.at.returns-in-Refused c).After-read)) _ c.in-Refused.refusal) }
+returns-in-Refused c =
+    let after-read = (goal.at.returns-in-Refused c).After-read in
+    record {
+      answer = sym (read after-read _ c.in-Refused.is);
+      memory = sym (refused-keeps (payload_of (field after-read)) _ c.in-Refused.refusal);
+    }

@@ -1,5 +1,4 @@
--- `decoding::reading::body` meets its contract. The invariant: the words that are left lead to the answer that all of them lead to,
--- and behind the bytes so far, which are i, they give the payload's number. Assumes nothing.
+-- `decoding::reading::body` meets its contract. Assumes nothing.
 use mathlib.Core.Path.{◌≡◌, refl, sym, ap, ap₂, ◌∙◌}
 use mathlib.Core.Bool.{Bool}
 use mathlib.Core.List.{[], ◌∷◌, map}
@@ -76,10 +75,11 @@ loop-i-init c = (omega arith, omega arith, lit< tt, rw sub-zero (record { to-ans
 
 pub returns-then-entry-gt127 : goal.returns-then-entry-gt127
 returns-then-entry-gt127 c =
-    let none = short_none (nine (goal.at.returns-then-entry-gt127 c).After-entry_in-entry) (omega (arith, entry (goal.at.returns-then-entry-gt127 c).After-entry_in-entry)) in
-    let why : c.no_byte.result ≡ no_byte c.loop-i.i (symbol_of (nine (goal.at.returns-then-entry-gt127 c).After-entry_in-entry))
+    let after-entry_in-entry = (goal.at.returns-then-entry-gt127 c).After-entry_in-entry in
+    let none = short_none (nine after-entry_in-entry) (omega (arith, entry after-entry_in-entry)) in
+    let why : c.no_byte.result ≡ no_byte c.loop-i.i (symbol_of (nine after-entry_in-entry))
     = c.no_byte.ensures ∙ rw c.nine_at-nine.ensures in
-    stops (symbol_of (nine (goal.at.returns-then-entry-gt127 c).After-entry_in-entry)) none (left (goal.at.returns-then-entry-gt127 c).After-entry_in-entry) ∙ ap Refused (sym why)
+    stops (symbol_of (nine after-entry_in-entry)) none (left after-entry_in-entry) ∙ ap Refused (sym why)
 
 pub overflow_mul-byte : goal.overflow_mul-byte
 overflow_mul-byte c = omega (arith, c.nine_at-nine.ensures)
@@ -99,9 +99,10 @@ overflow_add-payload c =
 
 pub loop-i-preserved : goal.loop-i-preserved
 loop-i-preserved c =
+    let after-entry_in-entry = (goal.at.loop-i-preserved c).After-entry_in-entry in
     let turn = c.loop-i in
-    let less = byte-below (goal.at.loop-i-preserved c).After-entry_in-entry (omega arith) in
-    let before = rw (carried (goal.at.loop-i-preserved c).After-entry_in-entry (omega arith)) at (left (goal.at.loop-i-preserved c).After-entry_in-entry) in (
+    let less = byte-below after-entry_in-entry (omega arith) in
+    let before = rw (carried after-entry_in-entry (omega arith)) at (left after-entry_in-entry) in (
       omega arith,
       omega arith,
       omega (arith, pow-add 256 turn.i 1, less),
@@ -110,18 +111,20 @@ loop-i-preserved c =
 
 pub returns-then-lowest-number_of : goal.returns-then-lowest-number_of
 returns-then-lowest-number_of c =
+    let after-number_of = (goal.at.returns-then-lowest-number_of c).After-number_of in
     let size = c.args.size in
-    sym (end (goal.at.returns-then-lowest-number_of c).After-number_of).to-answer
-    ∙ ap (λ (t : Bool). padding_answer t size) (sym (right (goal.at.returns-then-lowest-number_of c).After-number_of) ∙ ne_eqb _ _ c.if-lowest-number_of.true)
+    sym (end after-number_of).to-answer
+    ∙ ap (λ (t : Bool). padding_answer t size) (sym (right after-number_of) ∙ ne_eqb _ _ c.if-lowest-number_of.true)
 
 pub returns : goal.returns
 unfolding number unpacked
 returns c =
+    let after-number_of = (goal.at.returns c).After-number_of in
     let all = packed 9 c.args.size (bits (9 * c.args.size + c.args.count) c.args.number) in
     let long : length (map byte_of (map symbol_of all)) ≡ c.args.size
     = length-map (map symbol_of all) byte_of ∙ length-map all symbol_of ∙ packed-length 9 c.args.size _ in (
-      sym (end (goal.at.returns c).After-number_of).to-answer
-          ∙ ap (λ (t : Bool). padding_answer t c.args.size) (sym (right (goal.at.returns c).After-number_of) ∙ eq-eqb _ _ c.if-lowest-number_of.false)
+      sym (end after-number_of).to-answer
+          ∙ ap (λ (t : Bool). padding_answer t c.args.size) (sym (right after-number_of) ∙ eq-eqb _ _ c.if-lowest-number_of.false)
           ∙ ap Length (sym long),
-      (end (goal.at.returns c).After-number_of).to-payload,
+      (end after-number_of).to-payload,
     )

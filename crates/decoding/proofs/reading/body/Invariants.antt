@@ -1,5 +1,5 @@
--- `decoding::reading::body` meets its contract. The invariant: the words that are left lead to the answer that all of them lead to,
--- and behind the bytes so far, which are i, they give the payload's number. Assumes nothing.
+-- `decoding::reading::body`, the invariant: the words that are left lead to the answer that all of them lead to, and behind the bytes
+-- so far, which are i, they give the payload's number. Assumes nothing.
 use mathlib.Core.Path.{◌≡◌}
 use mathlib.Core.List.{map}
 use Prim.Native.Nat.{◌+◌, ◌*◌, ◌-◌, ◌^◌, ◌≤◌, ◌<◌}

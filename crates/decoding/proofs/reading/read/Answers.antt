@@ -58,7 +58,9 @@ one : (c : Start) → words_start (field c) ≡ 1
 one c = ap (λ (n : ℕ). length (break_bit n)) (long c ∙ add-one _)
 
 pub returns-then-room-size : goal.returns-then-room-size
-returns-then-room-size c = decode-short _ _ (allowed (goal.at.returns-then-room-size c).Start) (rw (size (goal.at.returns-then-room-size c).Start) at c.if-room-size.true)
+returns-then-room-size c =
+    let start = (goal.at.returns-then-room-size c).Start in
+    decode-short _ _ (allowed start) (rw (size start) at c.if-room-size.true)
 
 pub overflow_add-size : goal.overflow_add-size
 overflow_add-size c = omega (arith, body_below (goal.at.overflow_add-size c).Start)
@@ -79,7 +81,8 @@ returns-then-lowest-row c =
 
 pub body-requires : goal.body-requires
 body-requires c =
-    (search rules, search rules, pad-few (goal.at.body-requires c).Start, body_below (goal.at.body-requires c).Start)
+    let start = (goal.at.body-requires c).Start in
+    (search rules, search rules, pad-few start, body_below start)
 
 pub returns : goal.returns
 returns c =

@@ -54,8 +54,11 @@ few : (c : After-number_of) → number 0 (field_bits c.args.payload.now) < 2 ^ 6
 few c = field-number-below _ (omega arith)
 
 pub overflow_add-result : goal.overflow_add-result
-overflow_add-result c = omega (arith, whole (goal.at.overflow_add-result c).After-number_of, few (goal.at.overflow_add-result c).After-number_of)
+overflow_add-result c =
+    let after-number_of = (goal.at.overflow_add-result c).After-number_of in
+    omega (arith, whole after-number_of, few after-number_of)
 
 pub returns : goal.returns
 returns c =
-    ap (λ (n : ℕ). n + c.number_of.result) (mod-eq_of_lt (omega (arith, whole (goal.at.returns c).After-number_of, few (goal.at.returns c).After-number_of))) ∙ whole (goal.at.returns c).After-number_of
+    let after-number_of = (goal.at.returns c).After-number_of in
+    ap (λ (n : ℕ). n + c.number_of.result) (mod-eq_of_lt (omega (arith, whole after-number_of, few after-number_of))) ∙ whole after-number_of

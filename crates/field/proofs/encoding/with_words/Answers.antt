@@ -1,5 +1,4 @@
--- `field::encoding::with_words` meets its contract. The invariant: the words that are left, behind the number so far, give the
--- whole number; and the number so far has 1 + 9 i bits. Assumes nothing.
+-- `field::encoding::with_words` meets its contract. Assumes nothing.
 use mathlib.Core.Path.{◌≡◌, refl, sym, ◌∙◌}
 use Prim.Native.Nat.{ℕ, ◌^◌, ◌≤◌, ◌<◌}
 use native.Mathlib.Nat.{pow-le-pow_right}
@@ -45,15 +44,16 @@ overflow_add-number c = omega (arith, below (goal.at.overflow_add-number c).Afte
 
 pub loop-i-preserved : goal.loop-i-preserved
 loop-i-preserved c =
+    let after-word_in = (goal.at.loop-i-preserved c).After-word_in in
     let i = c.loop-i.i in
     let n = c.loop-i.number in
     let payload = c.args.payload.now in
     let h : i < length payload = omega arith in (
       omega arith,
-      rw (word (goal.at.loop-i-preserved c).After-word_in, add-one)
-          (sym (number-unpacked 9 n _ _ (word_below _ (byte (goal.at.loop-i-preserved c).After-word_in)))
+      rw (word after-word_in, add-one)
+          (sym (number-unpacked 9 n _ _ (word_below _ (byte after-word_in)))
           ∙ rw (drop-cons {A = ℕ} payload i 0 h) at c.loop-i.invariant.1),
-      omega (arith, below (goal.at.loop-i-preserved c).After-word_in, pow-add 512 i 1),
+      omega (arith, below after-word_in, pow-add 512 i 1),
     )
 
 pub returns : goal.returns

@@ -1,5 +1,5 @@
--- `field::encoding::with_words` meets its contract. The invariant: the words that are left, behind the number so far, give the
--- whole number; and the number so far has 1 + 9 i bits. Assumes nothing.
+-- `field::encoding::with_words`, the invariant: the words that are left, behind the number so far, give the whole number; and the
+-- number so far has 1 + 9 i bits. Assumes nothing.
 use mathlib.Core.Path.{◌≡◌}
 use Prim.Native.Nat.{◌*◌, ◌-◌, ◌^◌, ◌≤◌, ◌<◌}
 use lib.ListN.{length, drop}

@@ -29,19 +29,24 @@ bytes : (c : After-row_of-row) → c.row_of-row.result.bytes ≡ field_bytes (le
 bytes c = ap (λ (r : Row). r.bytes) (row c) ∙ ap field_bytes (sym c.requires.1)
 
 pub returns-then-field-n : goal.returns-then-field-n
-returns-then-field-n c = record { answer = sym (encode-short _ _ (short (goal.at.returns-then-field-n c).Start) (rw (bytes (goal.at.returns-then-field-n c).After-row_of-row) at c.if-field-n.true)); memory = refl }
+returns-then-field-n c =
+    record {
+      answer = sym (encode-short _ _ (short (goal.at.returns-then-field-n c).Start) (rw (bytes (goal.at.returns-then-field-n c).After-row_of-row) at c.if-field-n.true));
+      memory = refl;
+    }
 
 pub field_number-number-requires : goal.field_number-number-requires
 field_number-number-requires c = (search rules, row (goal.at.field_number-number-requires c).After-row_of-row, search rules, search rules)
 
 pub returns : goal.returns
 returns c =
+    let after-row_of-row = (goal.at.returns c).After-row_of-row in
     let few = short (goal.at.returns c).Start in record {
-      answer = ap Length (bytes (goal.at.returns c).After-row_of-row) ∙ sym (encode-accepts _ _ few (rw (bytes (goal.at.returns c).After-row_of-row) at c.if-field-n.false));
+      answer = ap Length (bytes after-row_of-row) ∙ sym (encode-accepts _ _ few (rw (bytes after-row_of-row) at c.if-field-n.false));
       memory = c.store.ensures.memory
           ∙ store-result (field_of _) _ _ _ (field_below _)
           (c.field_number-number.ensures ∙ ap (number 0) (sym (bits-of-field _ few)))
-          (bytes (goal.at.returns c).After-row_of-row ∙ sym (field-length _))
+          (bytes after-row_of-row ∙ sym (field-length _))
           (omega arith)
-          (omega (arith, bytes (goal.at.returns c).After-row_of-row, field_bytes-few _ few));
+          (omega (arith, bytes after-row_of-row, field_bytes-few _ few));
     }

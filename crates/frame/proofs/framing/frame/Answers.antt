@@ -33,15 +33,16 @@ of-requires c = (allowed (goal.at.of-requires c).Else-is_refused, omega (arith, 
 
 pub returns-in-Field : goal.returns-in-Field
 returns-in-Field c =
+    let in-Field = (goal.at.returns-in-Field c).In-Field in
     let payload = c.args.payload.now in
     let bytes = below_at 256 payload (λ i. omega (arith, c.shared_slice_known-1.given i)) in
-    let line = coded-line _ payload _ _ _ (found (goal.at.returns-in-Field c).In-Field) c.of.ensures.bits_are in
+    let line = coded-line _ payload _ _ _ (found in-Field) c.of.ensures.bits_are in
     record {
       allowed = allowed (goal.at.returns-in-Field c).Else-is_refused;
-      short = (found (goal.at.returns-in-Field c).In-Field).short;
+      short = (found in-Field).short;
       line-is = line;
-      enough = rw line (room-enough _ payload bytes (found (goal.at.returns-in-Field c).In-Field).short);
-      fit = record { starts = c.of.ensures.starts; dlc = c.of.ensures.dlc; few = few (goal.at.returns-in-Field c).In-Field; quiet = coded-quiet _ payload _ _ _ (found (goal.at.returns-in-Field c).In-Field) c.of.ensures.bits_are bytes };
+      enough = rw line (room-enough _ payload bytes (found in-Field).short);
+      fit = record { starts = c.of.ensures.starts; dlc = c.of.ensures.dlc; few = few in-Field; quiet = coded-quiet _ payload _ _ _ (found in-Field) c.of.ensures.bits_are bytes };
     }
 
 pub returns-in-Refused : goal.returns-in-Refused

@@ -1,4 +1,4 @@
--- `frame::stuffing::count` meets its contract. The invariant: the bits that are left lead where all of them lead. Assumes nothing.
+-- `frame::stuffing::count` meets its contract. Assumes nothing.
 use mathlib.Core.Path.{◌≡◌, refl, sym, ap, ◌∙◌}
 use mathlib.Core.List.{List}
 use Prim.Native.Nat.{ℕ, ◌+◌, ◌-◌, ◌*◌, ◌/◌, ◌%◌, ◌<◌}
@@ -36,17 +36,18 @@ overflow_add-drawn c =
 
 pub loop-left-preserved : goal.loop-left-preserved
 loop-left-preserved c =
+    let after-sent-sent = (goal.at.loop-left-preserved c).After-sent-sent in
     let loop = c.loop-left in
     let number = c.args.number in
     let some : 0 < loop.left = omega arith in
     let next = four_at number (loop.left - 1) in
     let few : next < 16 = mod-lt _ (lit< tt) in
     let below = sent-below loop.last next loop.invariant.1 few in
-    let run = ap (λ (s : ℕ). run_of (s % 16)) (four (goal.at.loop-left-preserved c).After-sent-sent) ∙ sent-run loop.last next loop.invariant.1 few in
-    let drawn = ap (λ (s : ℕ). s / 32) (four (goal.at.loop-left-preserved c).After-sent-sent) ∙ sent-drawn loop.last next loop.invariant.1 few in (
+    let run = ap (λ (s : ℕ). run_of (s % 16)) (four after-sent-sent) ∙ sent-run loop.last next loop.invariant.1 few in
+    let drawn = ap (λ (s : ℕ). s / 32) (four after-sent-sent) ∙ sent-drawn loop.last next loop.invariant.1 few in (
       omega arith,
       omega arith,
-      omega (arith, four (goal.at.loop-left-preserved c).After-sent-sent, below),
+      omega (arith, four after-sent-sent, below),
       loop.invariant.3 ∙ run-fours (run_of loop.last) loop.left number some
           ∙ ap (λ (r : Run). run_after_row r (bits (4 * (loop.left - 1)) number)) (sym run),
       loop.invariant.4

@@ -1,4 +1,4 @@
--- `frame::stuffing::count` meets its contract. The invariant: the bits that are left lead where all of them lead. Assumes nothing.
+-- `frame::stuffing::count`, the invariant: the bits that are left lead where all of them lead. Assumes nothing.
 use mathlib.Core.Path.{◌≡◌}
 use Prim.Native.Nat.{◌+◌, ◌*◌, ◌≤◌, ◌<◌}
 use Rattle.bits.specs.Rows.{bits}

@@ -1,5 +1,4 @@
--- `frame::writing::plain` meets its contract. The invariant: what is left to write leads to the line that the whole leads to.
--- Assumes nothing.
+-- `frame::writing::plain` meets its contract. Assumes nothing.
 use mathlib.Core.Path.{◌≡◌, refl, sym, ◌∙◌}
 use Prim.Native.Nat.{◌<◌}
 use native.Mathlib.Numerals.{add-one}

@@ -1,5 +1,4 @@
--- `frame::writing::plain_fours` meets its contract. The invariant: what is left to write leads to the line that the whole leads to.
--- Assumes nothing.
+-- `frame::writing::plain_fours` meets its contract. Assumes nothing.
 use mathlib.Core.Path.{refl, sym, ap, ◌∙◌}
 use mathlib.Core.List.{List}
 use Prim.Native.Nat.{ℕ, ◌-◌, ◌*◌}

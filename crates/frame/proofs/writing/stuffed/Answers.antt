@@ -1,5 +1,4 @@
--- `frame::writing::stuffed` meets its contract. The invariant: what is left to send leads to the line, the run and the place that
--- the whole leads to. Assumes nothing.
+-- `frame::writing::stuffed` meets its contract. Assumes nothing.
 use mathlib.Core.Path.{refl, sym, ap, ◌∙◌}
 use mathlib.Core.List.{List}
 use Prim.Native.Nat.{ℕ}

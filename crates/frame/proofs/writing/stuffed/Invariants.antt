@@ -1,5 +1,5 @@
--- `frame::writing::stuffed` meets its contract. The invariant: what is left to send leads to the line, the run and the place that
--- the whole leads to. Assumes nothing.
+-- `frame::writing::stuffed`, the invariant: what is left to send leads to the line, the run and the place that the whole leads to.
+-- Assumes nothing.
 use mathlib.Core.Path.{◌≡◌}
 use Prim.Native.Nat.{◌+◌, ◌*◌, ◌≤◌, ◌<◌}
 use lib.ListN.{length}

@@ -73,4 +73,7 @@ returns c =
     let written = written_behind (header_bits p) (data_bits p) c.header-behind_header.ensures c.field-behind_field.ensures in
     let tail = rw (written.run_is, check.0) at c.tail.ensures in
     let whole = sym (line-parts (header_bits p) (data_bits p)) in
-    let line = written-line (header_bits p ++ data_bits p) _ c.args.line.now _ _ _ _ written tail.0 tail.1 (subst (λ (l : List ℕ). length l ≤ length c.args.line.now) (sym whole) c.requires.1) in record { length = line.0 ∙ ap length whole; memory = line.1 ∙ ap (λ (l : List ℕ). l ++ drop (length l) c.args.line.now) whole }
+    let line = written-line (header_bits p ++ data_bits p) _ c.args.line.now _ _ _ _ written tail.0 tail.1 (subst (λ (l : List ℕ). length l ≤ length c.args.line.now) (sym whole) c.requires.1) in record {
+      length = line.0 ∙ ap length whole;
+      memory = line.1 ∙ ap (λ (l : List ℕ). l ++ drop (length l) c.args.line.now) whole;
+    }

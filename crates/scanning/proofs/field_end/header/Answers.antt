@@ -10,8 +10,16 @@ returns-then-n-eq1 c = record { answer = simp (eq-eqb _ _ c.if-n-eq1.true); memo
 
 pub returns-then-n-gt8 : goal.returns-then-n-gt8
 unfolding header_read
-returns-then-n-gt8 c = record { answer = simp (ne_eqb _ _ c.if-n-eq1.false, lt-ltb _ _ c.if-n-gt8.true); memory = refl }
+returns-then-n-gt8 c =
+    record {
+      answer = simp (ne_eqb _ _ c.if-n-eq1.false, lt-ltb _ _ c.if-n-gt8.true);
+      memory = refl;
+    }
 
 pub returns : goal.returns
 unfolding header_read
-returns c = record { answer = simp (ne_eqb _ _ c.if-n-eq1.false, le-ltb _ _ c.if-n-gt8.false); memory = refl }
+returns c =
+    record {
+      answer = simp (ne_eqb _ _ c.if-n-eq1.false, le-ltb _ _ c.if-n-gt8.false);
+      memory = refl;
+    }

@@ -7,7 +7,11 @@ use Rattle.scanning.proofs.field_end.judge.Goals as goal
 
 pub returns-then-seen : goal.returns-then-seen
 unfolding field_end widths_end
-returns-then-seen c = let early = lt-ltb _ _ c.if-seen.true in record { answer = simp early; memory = simp early }
+returns-then-seen c =
+    let early = lt-ltb _ _ c.if-seen.true in record {
+      answer = simp early;
+      memory = simp early;
+    }
 
 pub part-requires : goal.part-requires
 part-requires c =
@@ -18,4 +22,7 @@ part-requires c =
 pub returns : goal.returns
 unfolding field_end widths_end
 returns c =
-    let late = le-ltb _ _ c.if-seen.false in record { answer = simp (late, c.part.ensures.answer); memory = c.part.ensures.memory ∙ simp late }
+    let late = le-ltb _ _ c.if-seen.false in record {
+      answer = simp (late, c.part.ensures.answer);
+      memory = c.part.ensures.memory ∙ simp late;
+    }

@@ -12,7 +12,10 @@ use Rattle.scanning.proofs.field_end.part.Goals as goal
 pub returns-then-field-lt-DLC : goal.returns-then-field-lt-DLC
 unfolding part_end part_widths
 returns-then-field-lt-DLC c =
-    let early = lt-ltb _ _ c.if-field-lt-DLC.true in record { answer = simp (c.header_field.ensures.answer, early); memory = c.header_field.ensures.memory ∙ simp early }
+    let early = lt-ltb _ _ c.if-field-lt-DLC.true in record {
+      answer = simp (c.header_field.ensures.answer, early);
+      memory = c.header_field.ensures.memory ∙ simp early;
+    }
 
 -- behind the DLC the widths stay
 module _ (f : ℕ) (seen : Seen) where
@@ -36,20 +39,32 @@ module _ (f : ℕ) (seen : Seen) where
 pub returns-then-field-eq-CRC : goal.returns-then-field-eq-CRC
 returns-then-field-eq-CRC c =
     let f = c.args.field in
-    let is = c.if-field-eq-CRC.true in record { answer = c.check.ensures ∙ crc-row f _ is; memory = stay f _ _ (omega (arith, is)) }
+    let is = c.if-field-eq-CRC.true in record {
+      answer = c.check.ensures ∙ crc-row f _ is;
+      memory = stay f _ _ (omega (arith, is));
+    }
 
 pub returns-then-field-gt-CRC : goal.returns-then-field-gt-CRC
 returns-then-field-gt-CRC c =
     let f = c.args.field in
-    let behind = c.if-field-gt-CRC.true in record { answer = last_row f _ behind; memory = stay f _ _ (omega (arith, behind)) }
+    let behind = c.if-field-gt-CRC.true in record {
+      answer = last_row f _ behind;
+      memory = stay f _ _ (omega (arith, behind));
+    }
 
 pub returns-then-field-eq-DLC : goal.returns-then-field-eq-DLC
 unfolding part_end part_widths
 returns-then-field-eq-DLC c =
     let behind = le-ltb _ _ c.if-field-lt-DLC.false in
-    let dlc = eq-eqb _ _ c.if-field-eq-DLC.true in record { answer = simp (c.header.ensures.answer, behind, dlc); memory = c.header.ensures.memory ∙ simp (behind, dlc) }
+    let dlc = eq-eqb _ _ c.if-field-eq-DLC.true in record {
+      answer = simp (c.header.ensures.answer, behind, dlc);
+      memory = c.header.ensures.memory ∙ simp (behind, dlc);
+    }
 
 pub returns : goal.returns
 returns c =
     let f = c.args.field in
-    let late : 4 < f = omega (arith, c.if-field-lt-DLC.false, c.if-field-eq-DLC.false) in record { answer = c.data.ensures ∙ data-row f _ (omega (arith, late, c.if-field-eq-CRC.false, c.if-field-gt-CRC.false)); memory = stay f _ _ late }
+    let late : 4 < f = omega (arith, c.if-field-lt-DLC.false, c.if-field-eq-DLC.false) in record {
+      answer = c.data.ensures ∙ data-row f _ (omega (arith, late, c.if-field-eq-CRC.false, c.if-field-gt-CRC.false));
+      memory = stay f _ _ late;
+    }

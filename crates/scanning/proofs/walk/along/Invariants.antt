@@ -1,4 +1,4 @@
--- `scanning::walk::along` meets its contract: what is left of the line leads to the answer of the whole. Assumes nothing.
+-- `scanning::walk::along`, the invariants: what is left of the line leads to the answer of the whole. Assumes nothing.
 use mathlib.Core.Path.{◌≡◌}
 use mathlib.Core.Bool.{Bool}
 use mathlib.Core.List.{List}
