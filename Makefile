@@ -120,7 +120,7 @@ date = touch -c -r build/started $@
 # the program rests on; `rt run` builds it, and runs it once.
 build/bin/trace: $(SOURCES)
 	@$(rt)
-	@echo 'rt check trace: the program is proved before it is built, which takes a minute or two' >&2
+	@echo 'rt check trace: the program is proved before it is built, which takes some minutes' >&2
 	@$(begin) && mkdir -p build/bin
 	@cd crates/trace && rt check --list-axioms >&2 && rt run <stdin >../../build/run.report
 	@cp crates/trace/out/trace $@
