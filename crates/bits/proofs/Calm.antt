@@ -3,18 +3,18 @@
 --     calm-append    a calm row behind a calm row is calm
 --     other-calm     a bit of the other value than the bit before it draws no stuff bit and leaves a run of at most two, also where
 --                    that bit has drawn one
-use mathlib.Core.Path.{◌≡◌, refl, ap}
-use mathlib.Core.Bool.{Bool, true, false, cond, ◌&&◌}
+use mathlib.Core.Bool.{Bool, ◌&&◌}
 use mathlib.Core.List.{List, [], ◌∷◌, ◌++◌}
-use Prim.Native.Nat.{ℕ, ◌-◌, ◌≤◌, ◌<◌}
+use Prim.Native.Nat.{ℕ, ◌-◌, ◌<◌}
 use native.Mathlib.Omega.{arith}
 use lib.Dec.{T, eqb, ltb, leb, eqb→eq, ltb→lt, leb→le}
 use mir.Facts.{and_yes}
+use Rattle.std.proofs.lemmas.Bool.Decides.{nat_tests}
 use Rattle.bits.specs.declared.Run.{Run}
-use Rattle.bits.specs.Stuffing.{counted, fifth, run_after, stuff_count, run_after_row}
+use Rattle.bits.specs.Stuffing.{stuff_after, run_after, stuff_count, run_after_row}
 use Rattle.bits.specs.Calm.{CalmAfter, Calm}
 use Rattle.bits.proofs.Everywhere.{everywhere, everywhere-at}
-use Rattle.bits.proofs.Stuffing.{run, run-starts, run-grows, no-stuff, run_after_row-append, stuff_count-append}
+use Rattle.bits.proofs.Stuffing.{run_after_row-append, stuff_count-append}
 
 -- the row is calm after a run of `count` bits that are `bit`
 abbrev pub calm_after : List ℕ → ℕ → ℕ → Bool
@@ -46,20 +46,10 @@ calm-append l m first second r h =
       short = rw (run_after_row-append r l m) b.short;
     }
 
--- a bit that leaves a run of its own, of at most two
-bit-calm : (r : Run) (b n : ℕ) → b < 2 → n ≤ 2 → run_after r b ≡ run b n → CalmAfter r (b ∷ [])
-unfolding stuff_count run_after_row
-bit-calm r b n h g e =
-    let none = no-stuff r b h (ap (λ (q : Run). q.bit) e) in
-    record { no-stuff = rw none; short = rw e (record { bit_is = h; few = g }) }
-
 pub other-calm : (r : Run) (d : ℕ) → d < 2 → CalmAfter (run_after r d) ((1 - d) ∷ [])
-unfolding run_after
-other-calm r d h = go (fifth r d)
-  where
-    other : 1 - d < 2
-    other = omega arith
-
-    go : (t : Bool) → CalmAfter (cond t (run (1 - d) 1) (run d (counted r d))) ((1 - d) ∷ [])
-    go true = bit-calm (run (1 - d) 1) (1 - d) 2 other (omega arith) (run-grows (run (1 - d) 1) (1 - d) refl (λ e. omega arith))
-    go false = bit-calm (run d (counted r d)) (1 - d) 1 other (omega arith) (run-starts (run d (counted r d)) (1 - d) (λ e. omega arith))
+unfolding stuff_after run_after stuff_count run_after_row
+other-calm r d h =
+    record {
+      no-stuff = grind (arith, nat_tests);
+      short = record { bit_is = grind (arith, nat_tests); few = grind (arith, nat_tests) };
+    }

@@ -1,7 +1,7 @@
 -- A list is filled from the left. Assumes nothing.
 --     filled_next    one more is put at i, of those that go before n; what stands from n on stays
 --     sets-append    two rows are put one behind the other
-use mathlib.Core.Path.{◌≡◌, ap, ◌∙◌}
+use mathlib.Core.Path.{◌≡◌}
 use mathlib.Core.List.{List, [], ◌∷◌, ◌++◌, append_assoc}
 use Prim.Native.Nat.{ℕ, suc, ◌+◌, ◌<◌}
 use native.Mathlib.Numerals.{add-one}
@@ -15,6 +15,5 @@ filled_next old left i n x h g =
     rw (drop-set-lt n old i x g, add-one, take-suc-set old i x h) (append_assoc (take i old) (x ∷ []) (left ++ drop n old))
 
 pub sets-append : (l : List ℕ) (i : ℕ) (xs ys : List ℕ) → sets l i (xs ++ ys) ≡ sets (sets l i xs) (i + length xs) ys
-sets-append l i [] ys = ap (λ (n : ℕ). sets l n ys) (omega arith)
-sets-append l i (x ∷ xs) ys =
-    sets-append (set l i x) (suc i) xs ys ∙ ap (λ (n : ℕ). sets (sets (set l i x) (suc i) xs) n ys) (omega arith)
+sets-append l i [] ys = grind arith
+sets-append l i (x ∷ xs) ys = grind (arith, sets-append (set l i x) (suc i) xs ys)

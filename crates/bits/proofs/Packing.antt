@@ -26,10 +26,8 @@ use Rattle.bits.proofs.Rows.{bits-length, bits_below, bits-split, number_append,
 
 pub unpacked-length : (k : ℕ) (l : List ℕ) → length (unpacked k l) ≡ k * length l
 unfolding unpacked
-unpacked-length k [] = sym (mul-zero k)
-unpacked-length k (x ∷ l) =
-    length-append (bits k x) (unpacked k l) ∙ ap₂ ◌+◌ (bits-length k x) (unpacked-length k l)
-    ∙ add_comm k (k * length l) ∙ sym (mul-suc k (length l))
+unpacked-length k [] = grind arith
+unpacked-length k (x ∷ l) = simp (length-append, bits-length, unpacked-length k l) (grind arith)
 
 pub unpacked-below : (k : ℕ) (l : List ℕ) → Below 2 (unpacked k l)
 unfolding unpacked
@@ -46,40 +44,40 @@ unfolding unpacked packed
 packed-unpacked k [] m h = refl
 packed-unpacked k (x ∷ l) m h =
     let rest = unpacked k l ++ m in
-    rw append_assoc
-    (ap₂ ◌∷◌ (ap (number 0) (take_at (bits k x) rest k (bits-length k x)) ∙ number-low k x ∙ mod-eq_of_lt h.0)
-    (ap (packed k (length l)) (drop_at (bits k x) rest k (bits-length k x)) ∙ packed-unpacked k l m h.1))
+    let long = bits-length k x in
+    grind (
+      arith,
+      append_assoc,
+      take_at (bits k x) rest k long,
+      drop_at (bits k x) rest k long,
+      number-low k x,
+      mod-eq_of_lt h.0,
+      packed-unpacked k l m h.1,
+    )
 
 pub unpacked-packed : (k n : ℕ) (l : List ℕ) → Below 2 l → k * n ≤ length l → unpacked k (packed k n l) ≡ take (k * n) l
 unfolding unpacked packed
-unpacked-packed k zero l h g = ap (λ (m : ℕ). take m l) (sym (mul-zero k))
+unpacked-packed k zero l h g = grind arith
 unpacked-packed k (suc n) l h g =
-    let more : k * suc n ≡ k + k * n = mul-suc k n ∙ add_comm (k * n) k in
-    let first : length (take k l) ≡ k = length-take-le k l (omega arith) in
-    ap₂ ◌++◌ (ap (λ (m : ℕ). bits m (number 0 (take k l))) (sym first) ∙ bits-number 0 (take k l) (below-take 2 k l h))
-    (unpacked-packed k n (drop k l) (below-drop 2 k l h) (omega (arith, length-drop k l)))
-    ∙ sym (take-add k (k * n) l) ∙ ap (λ (m : ℕ). take m l) (sym more)
+    let first : length (take k l) ≡ k = length-take-le k l (grind arith) in
+    let front = bits-number 0 (take k l) (below-take 2 k l h) in
+    let rest = unpacked-packed k n (drop k l) (below-drop 2 k l h) in
+    grind (arith, length-drop, take-add k (k * n) l)
 
 pub number-unpacked : (k a x : ℕ) (l : List ℕ) → x < 2 ^ k → number a (unpacked k (x ∷ l)) ≡ number (a * 2 ^ k + x) (unpacked k l)
 unfolding unpacked
-number-unpacked k a x l h =
-    number_append a (bits k x) (unpacked k l)
-    ∙ ap (λ (m : ℕ). number m (unpacked k l)) (number-bits a k x ∙ ap (λ (m : ℕ). a * 2 ^ k + m) (mod-eq_of_lt h))
+number-unpacked k a x l h = grind (arith, number_append a (bits k x) (unpacked k l), number-bits a k x, mod-eq_of_lt h)
 
 pub packed-bits : (k n j v : ℕ) → packed k (suc n) (bits (k + j) v) ≡ (v / 2 ^ j % 2 ^ k) ∷ packed k n (bits j v)
 unfolding packed
 packed-bits k n j v =
-    ap (packed k (suc n)) (bits-split k j v)
-    ∙ ap₂ ◌∷◌
-    (ap (number 0) (take_at (bits k (v / 2 ^ j)) (bits j v) k (bits-length k (v / 2 ^ j))) ∙ number-low k (v / 2 ^ j))
-    (ap (packed k n) (drop_at (bits k (v / 2 ^ j)) (bits j v) k (bits-length k (v / 2 ^ j))))
+    let first = bits k (v / 2 ^ j) in
+    let long = bits-length k (v / 2 ^ j) in
+    grind (arith, bits-split k j v, take_at first (bits j v) k long, drop_at first (bits j v) k long, number-low k (v / 2 ^ j))
 
 pub packed-next : (k n i at v : ℕ) → i < n → k ≤ at
     → packed k (n - i) (bits at v) ≡ (v / 2 ^ (at - k) % 2 ^ k) ∷ packed k (n - (i + 1)) (bits (at - k) v)
-packed-next k n i at v h g =
-    let count : n - i ≡ suc (n - (i + 1)) = omega arith in
-    let down : at ≡ k + (at - k) = omega arith in
-    ap₂ (λ (m j : ℕ). packed k m (bits j v)) count down ∙ packed-bits k (n - (i + 1)) (at - k) v
+packed-next k n i at v h g = grind (arith, packed-bits k (n - (i + 1)) (at - k) v)
 
 pub bits-unpacked : (k n v : ℕ) (l : List ℕ) → n ≡ length l → v ≡ number 0 (unpacked k l) → bits (k * n) v ≡ unpacked k l
 bits-unpacked k n v l en ev =

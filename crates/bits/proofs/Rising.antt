@@ -4,10 +4,10 @@
 use mathlib.Core.Bool.{Bool, true, ◌&&◌}
 use mathlib.Core.List.{List, [], ◌∷◌}
 use Prim.Native.Nat.{ℕ, zero, suc, ◌<◌}
-use native.Mathlib.Nat.{le_of_suc-le-suc, not-suc-le-zero, lt_trans}
-use lib.Dec.{T, ltb, ltb→lt}
+use native.Mathlib.Omega.{arith}
+use lib.Dec.{T, ltb}
 use lib.ListN.{length, get_or}
-use mir.Facts.{and_yes}
+use Rattle.std.proofs.lemmas.Bool.Decides.{nat_tests}
 
 -- the list starts above a, and each of its numbers is greater than the one before it
 abbrev pub rising_from : ℕ → List ℕ → Bool
@@ -20,20 +20,17 @@ rising [] = true
 rising (x ∷ l) = rising_from x l
 
 above : (a : ℕ) (l : List ℕ) → T (rising_from a l) → (j : ℕ) → j < length l → a < get_or l j 0
-above a [] t j h = absurd (not-suc-le-zero h)
-above a (x ∷ l) t zero h = ltb→lt a x (and_yes (ltb a x) (rising_from x l) t).0
-above a (x ∷ l) t (suc j) h =
-    let both = and_yes (ltb a x) (rising_from x l) t in
-    lt_trans (ltb→lt a x both.0) (above x l both.1 j (le_of_suc-le-suc h))
+above a [] t j h = absurd (omega arith)
+above a (x ∷ l) t zero h = grind (arith, nat_tests)
+above a (x ∷ l) t (suc j) h = grind (arith, nat_tests, above x l)
 
 pub rising-tail : (x : ℕ) (l : List ℕ) → T (rising (x ∷ l)) → T (rising l)
 rising-tail x [] t = tt
-rising-tail x (y ∷ l) t = (and_yes (ltb x y) (rising_from y l) t).1
+rising-tail x (y ∷ l) t = grind (arith, nat_tests)
 
 pub rising-at : (l : List ℕ) → T (rising l) → (i j : ℕ) → i < j → j < length l → get_or l i 0 < get_or l j 0
-rising-at [] t i j h k = absurd (not-suc-le-zero k)
-rising-at (x ∷ l) t zero zero h k = absurd (not-suc-le-zero h)
-rising-at (x ∷ l) t zero (suc j) h k = above x l t j (le_of_suc-le-suc k)
-rising-at (x ∷ l) t (suc i) zero h k = absurd (not-suc-le-zero h)
-rising-at (x ∷ l) t (suc i) (suc j) h k =
-    rising-at l (rising-tail x l t) i j (le_of_suc-le-suc h) (le_of_suc-le-suc k)
+rising-at [] t i j h k = absurd (omega arith)
+rising-at (x ∷ l) t zero zero h k = absurd (omega arith)
+rising-at (x ∷ l) t zero (suc j) h k = above x l t j (omega arith)
+rising-at (x ∷ l) t (suc i) zero h k = absurd (omega arith)
+rising-at (x ∷ l) t (suc i) (suc j) h k = rising-at l (rising-tail x l t) i j (omega arith) (omega arith)

@@ -11,12 +11,12 @@
 --     bits-low         of k bits of a number only its k lowest count
 --     number-only      rows of one length that write one number are one row
 --     bits-join        two numbers put together: the bits of the one, and behind them those of the other
-use mathlib.Core.Path.{◌≡◌, refl, sym, ap, ap₂, ◌∙◌}
+use mathlib.Core.Path.{◌≡◌, refl, ap, ap₂, ◌∙◌}
 use mathlib.Core.List.{List, [], ◌∷◌, ◌++◌}
 use Prim.Native.Nat.{ℕ, zero, suc, ◌+◌, ◌-◌, ◌*◌, ◌/◌, ◌%◌, ◌^◌, ◌<◌}
-use native.Mathlib.Nat.{zero-add, add-zero, suc-add, add_comm, add_assoc, zero-mul, mul-one, add-mul, mul_assoc, pow-zero, pow-succ', mod-lt, mod-one, mod-eq_of_lt}
+use native.Mathlib.Nat.{zero-add, add-zero, suc-add, add_assoc, zero-mul, mul-one, add-mul, mul_assoc, pow-zero, pow-succ', mod-lt, mod-one, mod-eq_of_lt}
 use native.Mathlib.Omega.{arith}
-use lib.Arith.{digits_lt, digits_mod, mod-mul}
+use lib.Arith.{digits_mod, mod-mul}
 use lib.Dec.{lit<}
 use lib.ListN.{length}
 use lib.Pow.{pow_pos, shr-shr, high}
@@ -36,14 +36,12 @@ bits_below (suc k) n = (mod-lt _ (lit< tt), bits_below k _)
 pub bits-next : (k n : ℕ) → 0 < k → bits k n ≡ (n / 2 ^ (k - 1) % 2) ∷ bits (k - 1) n
 unfolding bits
 bits-next zero n h = absurd (omega arith)
-bits-next (suc k) n h = let less : suc k - 1 ≡ k = omega arith in rw less
+bits-next (suc k) n h = grind arith
 
 pub bits-split : (j k n : ℕ) → bits (j + k) n ≡ bits j (n / 2 ^ k) ++ bits k n
 unfolding bits
-bits-split zero k n = ap (λ (m : ℕ). bits m n) (zero-add k)
-bits-split (suc j) k n =
-    ap (λ (m : ℕ). bits m n) (suc-add j k)
-    ∙ ap₂ ◌∷◌ (ap (λ (x : ℕ). x % 2) (ap (λ (m : ℕ). n / 2 ^ m) (add_comm j k) ∙ sym (shr-shr n k j))) (bits-split j k n)
+bits-split zero k n = grind arith
+bits-split (suc j) k n = let up = shr-shr n k j in rw suc-add (grind (arith, bits-split j k n))
 
 pub number_append : (a : ℕ) (l m : List ℕ) → number a (l ++ m) ≡ number (number a l) m
 unfolding number
@@ -57,7 +55,7 @@ number-bits a (suc k) n =
     number-bits (a * 2 + n / 2 ^ k % 2) k n ∙ rw (pow-succ', mod-mul n {m = 2} {c = 2 ^ k} (lit< tt) (pow_pos k), add-mul, mul_assoc, add_assoc)
 
 pub number-low : (k n : ℕ) → number 0 (bits k n) ≡ n % 2 ^ k
-number-low k n = number-bits 0 k n ∙ rw (zero-mul, zero-add)
+number-low k n = grind (arith, number-bits 0 k n)
 
 pub number-from : (a : ℕ) (l : List ℕ) → number a l ≡ a * 2 ^ length l + number 0 l
 unfolding number
@@ -69,7 +67,7 @@ number-from a (b ∷ l) =
 pub number-below : (l : List ℕ) → Below 2 l → number 0 l < 2 ^ length l
 unfolding number
 number-below [] h = lit< tt
-number-below (b ∷ l) h = rw (number-from (0 * 2 + b) l, pow-succ' 2 (length l), zero-mul, zero-add) (digits_lt h.0 (number-below l h.1))
+number-below (b ∷ l) h = grind (arith, number-from b l, number-below l h.1, pow-succ')
 
 pub bits-number : (a : ℕ) (l : List ℕ) → Below 2 l → bits (length l) (number a l) ≡ l
 unfolding bits number
@@ -80,14 +78,12 @@ bits-number a (b ∷ l) h =
     (bits-number (a * 2 + b) l h.1)
 
 pub bits-low : (k n : ℕ) → bits k (n % 2 ^ k) ≡ bits k n
-bits-low k n = sym (ap₂ bits (bits-length k n) (number-low k n)) ∙ bits-number 0 (bits k n) (bits_below k n)
+bits-low k n = grind (arith, bits-number 0 (bits k n), number-low, bits-length, bits_below)
 
 pub number-only : (l m : List ℕ) → Below 2 l → Below 2 m → length l ≡ length m → number 0 l ≡ number 0 m → l ≡ m
-number-only l m h g e n = sym (bits-number 0 l h) ∙ ap₂ bits e n ∙ bits-number 0 m g
+number-only l m h g e n = grind (arith, bits-number 0 l h, bits-number 0 m g)
 
 pub bits-join : (j k a b : ℕ) → b < 2 ^ k → bits (j + k) (a * 2 ^ k + b) ≡ bits j a ++ bits k b
 bits-join j k a b h =
-    let low : number a (bits k b) ≡ a * 2 ^ k + b = number-bits a k b ∙ ap (λ (n : ℕ). a * 2 ^ k + n) (mod-eq_of_lt h) in
-    bits-split j k (a * 2 ^ k + b)
-    ∙ ap₂ (λ (n : ℕ) (l : List ℕ). bits j n ++ l) (high a k h)
-    (ap₂ bits (sym (bits-length k b)) (sym low) ∙ bits-number a (bits k b) (bits_below k b))
+    let low = bits-number a (bits k b) (bits_below k b) in
+    grind (arith, bits-split j k (a * 2 ^ k + b), high a k h, mod-eq_of_lt h, number-bits a k b, bits-length k b)

@@ -2,9 +2,7 @@
 --     stuff-starts-run      a worked row: a stuff bit, or a bit of the other value, is the first of the next five
 --     counted-at-most       a bit makes a run one longer, or one long
 --     counted-few           behind at most four, a bit that is not the fifth leaves at most four
---     run-starts, run-grows    the run that a bit leaves where no stuff bit follows: its own, or one bit longer
---     run-some, run-bit     it has a bit, and that is 0 or 1
---     no-stuff, one-stuff   the stuff bit that follows a bit is the bit of the run that it starts, where that is another bit
+--     run-some, run-bit     the run that a row leaves has a bit, and that is 0 or 1
 --     stuffed-length        a row as it is sent has the row's bits and its stuff bits
 --     stuffed-below         and these are bits
 --     run_after_row-append    rows one behind the other: the run that they leave
@@ -12,15 +10,12 @@
 --     stuffed-append        and what is sent
 --     stuff-weight          a stuff bit shortens the run by four, so that rows draw few of them
 use mathlib.Core.Path.{◌≡◌, refl}
-use mathlib.Core.Bool.{Bool, true, false, cond}
+use mathlib.Core.Bool.{false}
 use mathlib.Core.List.{List, [], ◌∷◌, ◌++◌, append_assoc}
-use Prim.Native.Nat.{ℕ, ◌+◌, ◌-◌, ◌*◌, ◌≤◌, ◌<◌}
-use native.Mathlib.Nat.{le_trans}
+use Prim.Native.Nat.{ℕ, ◌+◌, ◌*◌, ◌≤◌, ◌<◌}
 use native.Mathlib.Omega.{arith}
-use lib.Arith.{le_of_le-suc-ne}
-use lib.Dec.{eqb}
 use lib.ListN.{length, length-append}
-use borrow.Author.Tests.{eqb-true, eqb-false, eq-eqb, ne_eqb}
+use Rattle.std.proofs.lemmas.Bool.Decides.{nat_tests}
 use Rattle.bits.specs.declared.Run.{Run}
 use Rattle.bits.specs.Below.{Below}
 use Rattle.bits.specs.Stuffing.{nothing_sent, counted, fifth, stuff_after, run_after, stuffed, stuff_count, run_after_row}
@@ -35,39 +30,10 @@ unfolding stuff_after run_after stuffed
 stuff-starts-run = refl
 
 pub counted-at-most : (r : Run) (b : ℕ) → counted r b ≤ r.count + 1
-counted-at-most r b = go (eqb b r.bit)
-  where
-    go : (same : Bool) → cond same (r.count + 1) 1 ≤ r.count + 1
-    go true = omega arith
-    go false = omega arith
+counted-at-most r b = grind (arith, nat_tests)
 
 pub counted-few : (r : Run) (b : ℕ) → r.count ≤ 4 → fifth r b ≡ false → counted r b ≤ 4
-counted-few r b h e = le_of_le-suc-ne (le_trans (counted-at-most r b) (omega arith)) (eqb-false (counted r b) 5 e)
-
-pub run-starts : (r : Run) (b : ℕ) → (b ≡ r.bit → ⊥) → run_after r b ≡ run b 1
-unfolding run_after
-run-starts r b n = simp (ne_eqb b r.bit n)
-
-pub run-grows : (r : Run) (b : ℕ) → b ≡ r.bit → (r.count ≡ 4 → ⊥) → run_after r b ≡ run b (r.count + 1)
-unfolding run_after
-run-grows r b e n = simp (eq-eqb b r.bit e, ne_eqb (r.count + 1) 5 (λ five. n (omega arith)))
-
-pub no-stuff : (r : Run) (b : ℕ) → b < 2 → (run_after r b).bit ≡ b → stuff_after r b ≡ []
-unfolding stuff_after run_after
-no-stuff r b h e = go (fifth r b) e
-  where
-    go : (t : Bool) → (cond t (run (1 - b) 1) (run b (counted r b))).bit ≡ b → cond t ((1 - b) ∷ []) [] ≡ []
-    go true e = absurd (omega arith)
-    go false e = refl
-
-pub one-stuff : (r : Run) (b : ℕ) → ((run_after r b).bit ≡ b → ⊥) → stuff_after r b ≡ (run_after r b).bit ∷ []
-unfolding stuff_after run_after
-one-stuff r b n = go (fifth r b) n
-  where
-    go : (t : Bool) → ((cond t (run (1 - b) 1) (run b (counted r b))).bit ≡ b → ⊥)
-        → cond t ((1 - b) ∷ []) [] ≡ (cond t (run (1 - b) 1) (run b (counted r b))).bit ∷ []
-    go true n = refl
-    go false n = absurd (n refl)
+counted-few r b h e = grind (arith, nat_tests)
 
 pub stuffed-length : (r : Run) (l : List ℕ) → length (stuffed r l) ≡ length l + stuff_count r l
 unfolding stuffed stuff_count
@@ -77,11 +43,7 @@ stuffed-length r (b ∷ l) = simp (length-append, stuffed-length (run_after r b)
 pub stuffed-below : (r : Run) (l : List ℕ) → Below 2 l → Below 2 (stuffed r l)
 unfolding stuff_after stuffed
 stuffed-below r [] h = tt
-stuffed-below r (b ∷ l) h = (h.0, go (fifth r b) (stuffed-below (run_after r b) l h.1))
-  where
-    go : (t : Bool) → Below 2 (stuffed (run_after r b) l) → Below 2 (cond t ((1 - b) ∷ []) [] ++ stuffed (run_after r b) l)
-    go true rest = (omega arith, rest)
-    go false rest = rest
+stuffed-below r (b ∷ l) h = let rest = stuffed-below (run_after r b) l h.1 in grind (arith, nat_tests)
 
 pub run_after_row-append : (r : Run) (l m : List ℕ) → run_after_row r (l ++ m) ≡ run_after_row (run_after_row r l) m
 unfolding run_after_row
@@ -102,13 +64,7 @@ stuffed-append r (b ∷ l) m = simp (append_assoc, stuffed-append (run_after r b
 bit-weight : (r : Run) (b : ℕ) → r.count ≤ 4
     → (4 * length (stuff_after r b) + (run_after r b).count ≤ r.count + 1) × ((run_after r b).count ≤ 4)
 unfolding stuff_after run_after
-bit-weight r b h = go (fifth r b) refl
-  where
-    go : (t : Bool) → fifth r b ≡ t
-        → let after : Run = cond t (run (1 - b) 1) (run b (counted r b)) in
-        (4 * length (cond t ((1 - b) ∷ []) []) + after.count ≤ r.count + 1) × (after.count ≤ 4)
-    go true e = let five = eqb-true (counted r b) 5 e in (omega (arith, counted-at-most r b), omega arith)
-    go false e = let most = counted-at-most r b in (omega arith, counted-few r b h e)
+bit-weight r b h = grind (arith, nat_tests)
 
 pub stuff-weight : (r : Run) (l : List ℕ) → r.count ≤ 4
     → (4 * stuff_count r l + (run_after_row r l).count ≤ r.count + length l) × ((run_after_row r l).count ≤ 4)
@@ -121,19 +77,10 @@ stuff-weight r (b ∷ l) h =
 
 pub run-some : (r : Run) (b : ℕ) (l : List ℕ) → 0 < (run_after_row r (b ∷ l)).count
 unfolding run_after run_after_row
-run-some r b [] = go (fifth r b) (eqb b r.bit)
-  where
-    go : (t same : Bool) → 0 < (cond t (run (1 - b) 1) (run b (cond same (r.count + 1) 1))).count
-    go true same = omega arith
-    go false true = omega arith
-    go false false = omega arith
+run-some r b [] = grind (arith, nat_tests)
 run-some r b (x ∷ l) = run-some (run_after r b) x l
 
 pub run-bit : (r : Run) (l : List ℕ) → r.bit < 2 → Below 2 l → (run_after_row r l).bit < 2
 unfolding run_after run_after_row
 run-bit r [] h g = h
-run-bit r (b ∷ l) h g = run-bit (run_after r b) l (go (fifth r b)) g.1
-  where
-    go : (t : Bool) → (cond t (run (1 - b) 1) (run b (counted r b))).bit < 2
-    go true = omega arith
-    go false = g.0
+run-bit r (b ∷ l) h g = run-bit (run_after r b) l (grind (arith, nat_tests)) g.1

@@ -4,10 +4,10 @@
 --     crc-behind       what the code's exclusive ors give, on a register that is moved up by one bit
 --     crc-nothing, crc-leading    the CRC of no bits is 0, and a bit 0 before a row changes nothing
 --     crc-short        nor do the bits 0 that stand before a number's own
-use mathlib.Core.Path.{◌≡◌, refl, sym, ap, ap₂, ◌∙◌}
+use mathlib.Core.Path.{◌≡◌, refl, sym, ap, ◌∙◌}
 use mathlib.Core.List.{List, [], ◌∷◌, ◌++◌}
 use Prim.Native.Nat.{ℕ, zero, suc, ◌+◌, ◌*◌, ◌/◌, ◌%◌, ◌^◌, ◌≤◌, ◌<◌}
-use native.Mathlib.Nat.{zero-add, suc-add, div-eq_of_lt}
+use native.Mathlib.Nat.{suc-add, div-eq_of_lt}
 use native.Mathlib.Omega.{arith}
 use lib.Bits.{bit_xor, xor_zero_r, xor_shifted}
 use lib.Dec.{lit<}
@@ -33,7 +33,7 @@ unfolding fifteen
 fifteen-below register h = remainder-below register (bits 15 0) h
 
 xor_nothing : (a : ℕ) → a < 2 ^ 15 → xor 15 a 0 ≡ a
-xor_nothing a h = sym (xor_is 15 a 0 h (lit< tt)) ∙ xor_zero_r a
+xor_nothing a h = grind (arith, xor_is 15 a 0, xor_zero_r a)
 
 fifteen-sum : (a b : ℕ) → a < 2 ^ 15 → b < 2 ^ 15 → fifteen (xor 15 a b) ≡ xor 15 (fifteen a) (fifteen b)
 unfolding fifteen
@@ -41,16 +41,14 @@ fifteen-sum a b h g = linear-row 15 0 a b h g
 
 -- four bits by themselves
 four-alone : (v : ℕ) → v < 16 → remainder 0 (bits 4 v) ≡ v
-four-alone v h = remainder-short 4 0 0 v (lit< tt) (omega arith) ∙ omega arith
+four-alone v h = grind (arith, remainder-short 4 0 0 v)
 
 crc-alone : (v : ℕ) → v < 16 → crc (bits 4 v) ≡ fifteen v
 crc-alone v h = crc-is (bits 4 v) ∙ ap fifteen (four-alone v h)
 
 -- four bits brought down are added at the end
 four-added : (m v : ℕ) → m < 2 ^ 15 → v < 16 → remainder m (bits 4 v) ≡ xor 15 (remainder m (bits 4 0)) v
-four-added m v h g =
-    ap (λ (r : ℕ). remainder r (bits 4 v)) (sym (xor_nothing m h))
-    ∙ linear-row 4 v m 0 h (lit< tt) ∙ ap (xor 15 (remainder m (bits 4 0))) (four-alone v g)
+four-added m v h g = grind (arith, xor_nothing m h, linear-row 4 v m 0 h, four-alone v g)
 
 -- bits 0 in either order
 zeros-swapped : (m : ℕ) → fifteen (remainder m (bits 4 0)) ≡ remainder (fifteen m) (bits 4 0)
@@ -69,10 +67,7 @@ moved_up : (r : ℕ) → r < 2 ^ 15 → remainder r (bits 4 0) ≡ xor 15 (fifte
 moved_up r h =
     let hi : ℕ = r / 2048 in
     let lo : ℕ = r % 2048 in
-    let whole : xor 15 (hi * 2048) lo ≡ r = sym (xor_is 15 (hi * 2048) lo (omega arith) (omega arith)) ∙ xor_shifted hi 11 lo (omega arith) ∙ omega arith in
-    ap (λ (n : ℕ). remainder n (bits 4 0)) (sym whole)
-    ∙ linear-row 4 0 (hi * 2048) lo (omega arith) (omega arith)
-    ∙ ap₂ (xor 15) (high-out hi (omega arith)) (remainder-short 4 11 lo 0 (omega arith) (omega arith) ∙ omega arith)
+    grind (arith, xor_is 15 (hi * 2048) lo, xor_shifted hi 11 lo, linear-row 4 0 (hi * 2048) lo, high-out hi, remainder-short 4 11 lo 0)
 
 pub crc-next-four : (l : List ℕ) (v : ℕ) → v < 16 → crc (l ++ bits 4 v) ≡ crc_behind (crc l) v
 unfolding crc_behind
@@ -83,17 +78,23 @@ crc-next-four l v g =
     let up : ℕ = r % 2048 * 16 in
     let below = crc-below l in
     let small = remainder-below 0 l (lit< tt) in
-    let both : xor 15 hi v ≡ xor 4 hi v = sym (xor_is 15 hi v (omega arith) (omega arith)) ∙ xor_is 4 hi v (omega arith) g in
-    crc-is (l ++ bits 4 v)
-    ∙ ap fifteen (remainder-append 0 l (bits 4 v) ∙ four-added m v small g)
-    ∙ fifteen-sum (remainder m (bits 4 0)) v (remainder-below m (bits 4 0) small) (omega arith)
-    ∙ ap₂ (xor 15)
-    (zeros-swapped m ∙ ap (λ (n : ℕ). remainder n (bits 4 0)) (sym (crc-is l)) ∙ moved_up r below)
-    (sym (xor_nothing (fifteen v) (fifteen-below v (omega arith))))
-    ∙ medial 15 (fifteen hi) up (fifteen v) 0
-    ∙ ap₂ (xor 15)
-    (sym (fifteen-sum hi v (omega arith) (omega arith)) ∙ ap fifteen both ∙ sym (crc-alone (xor 4 hi v) (xor_below 4 hi v)))
-    (xor_nothing up (omega arith))
+    let zeros = remainder m (bits 4 0) in
+    let both : xor 15 hi v ≡ xor 4 hi v = grind (arith, xor_is 15 hi v, xor_is 4 hi v) in
+    grind (
+      arith,
+      crc-is (l ++ bits 4 v),
+      crc-is l,
+      remainder-append 0 l (bits 4 v),
+      four-added m v small g,
+      fifteen-sum zeros v (remainder-below m (bits 4 0) small),
+      zeros-swapped m,
+      moved_up r below,
+      xor_nothing (fifteen v) (fifteen-below v (omega arith)),
+      medial 15 (fifteen hi) up (fifteen v) 0,
+      fifteen-sum hi v,
+      crc-alone (xor 4 hi v) (xor_below 4 hi v),
+      xor_nothing up (omega arith),
+    )
 
 crc-list-at : (v : ℕ) → v < 16 → get_or crc_list v 0 ≡ crc (bits 4 v) * 2
 unfolding crc_list
@@ -101,19 +102,14 @@ crc-list-at v h = numbers-at (λ (four : ℕ). crc (bits 4 four) * 2) 0 16 v h
 
 -- two numbers that are moved up by one bit
 xor-up : (a b : ℕ) → a < 2 ^ 15 → b < 2 ^ 15 → bit_xor (a * 2) (b * 2) ≡ xor 15 a b * 2
-xor-up a b h g =
-    let x : a * 2 ≡ a * 2 + 0 = omega arith in
-    let y : b * 2 ≡ b * 2 + 0 = omega arith in
-    xor_is 16 (a * 2) (b * 2) (omega arith) (omega arith) ∙ ap₂ (xor 16) x y ∙ xor-bring 15 a b 0 0 (lit< tt) (lit< tt) ∙ omega arith
+xor-up a b h g = grind (arith, xor_is 16 (a * 2) (b * 2), xor-bring 15 a b 0 0)
 
 pub crc-behind : (x v : ℕ) → x < 2 ^ 15 → v < 16 → bit_xor (get_or crc_list (bit_xor (x * 2 / 4096) v) 0) (x * 2 * 16 % 65536) ≡ crc_behind x v * 2
 unfolding crc_behind
 crc-behind x v h g =
-    let hi : x * 2 / 4096 ≡ x / 2048 = omega arith in
-    let low : x * 2 * 16 % 65536 ≡ x % 2048 * 16 * 2 = omega arith in
-    let both : bit_xor (x * 2 / 4096) v ≡ xor 4 (x / 2048) v = ap (λ (n : ℕ). bit_xor n v) hi ∙ xor_is 4 (x / 2048) v (omega arith) g in
-    let at = ap (λ (n : ℕ). get_or crc_list n 0) both ∙ crc-list-at (xor 4 (x / 2048) v) (xor_below 4 (x / 2048) v) in
-    ap₂ bit_xor at low ∙ xor-up (crc (bits 4 (xor 4 (x / 2048) v))) (x % 2048 * 16) (crc-below _) (omega arith)
+    let out = xor 4 (x / 2048) v in
+    let below = xor_below 4 (x / 2048) v in
+    grind (arith, xor_is 4 (x / 2048) v, crc-list-at out, xor-up (crc (bits 4 out)) (x % 2048 * 16), crc-below (bits 4 out))
 
 pub crc-nothing : crc [] ≡ 0
 unfolding crc remainder divide xor
@@ -125,10 +121,8 @@ crc-leading l = refl
 
 pub crc-short : (j k h : ℕ) (l : List ℕ) → h < 2 ^ k → crc (bits (j + k) h ++ l) ≡ crc (bits k h ++ l)
 unfolding bits
-crc-short zero k h l few = ap (λ (n : ℕ). crc (bits n h ++ l)) (zero-add k)
+crc-short zero k h l few = grind arith
 crc-short (suc j) k h l few =
     let wide : 2 ^ k ≤ 2 ^ (j + k) = pow_mono {i = k} {j = j + k} (omega arith) in
-    let top : h / 2 ^ (j + k) % 2 ≡ 0 = ap (λ (n : ℕ). n % 2) (div-eq_of_lt (omega arith)) in
-    ap (λ (n : ℕ). crc (bits n h ++ l)) (suc-add j k)
-    ∙ ap (λ (b : ℕ). crc (b ∷ (bits (j + k) h ++ l))) top
-    ∙ crc-leading (bits (j + k) h ++ l) ∙ crc-short j k h l few
+    let top : h / 2 ^ (j + k) ≡ 0 = div-eq_of_lt (omega arith) in
+    rw suc-add (grind (arith, crc-leading (bits (j + k) h ++ l), crc-short j k h l))

@@ -21,8 +21,8 @@ const CRCS: [u16; 16] = [
     0x4FF4, // 1111
 ];
 
-pub(crate) fn list() -> [u16; 16]
-    ensures { result ≡ crc_list }
+pub(crate) fn list() -> &'static [u16; 16]
+    ensures { result.now ≡ crc_list }
 {
-    CRCS
+    &CRCS
 }

@@ -3,7 +3,7 @@
 --     Order            such numbers, each with its condition, which may be of a place
 --     GivenAt          the condition of a number and a place; a number that is none of them is not given
 --     Refuses          the same of a refusal, by its number and its place
---     Answers          of an answer: of a refusal the same, of a length a condition of its own
+--     Answers          of an answer: of a refusal the same, of what else is given a condition of its own
 --     number-among     so the number of a refusal that is given is one of them
 use mathlib.Core.Path.{◌≡◌, refl}
 use mathlib.Core.Bool.{Bool, true, false, cond}
@@ -12,10 +12,9 @@ use mathlib.Core.Logic.{inl, inr}
 use Prim.Native.Nat.{ℕ}
 use lib.Dec.{eqb}
 use borrow.Author.Tests.{eqb-true}
+use Rattle.std.proofs.Common.{Result, Ok, Err}
 use Rattle.refusals.specs.Among.{Among}
 use Rattle.refusals.specs.Table.{number_of, place_of}
-use Rattle.refusals.specs.declared.Answer.{Answer}
-use Rattle.refusals.specs.declared.Answer.TheVariants.{Length, Refused}
 use Rattle.refusals.specs.declared.Refusal.{Refusal}
 
 abbrev pub Order : Type 1
@@ -28,9 +27,9 @@ GivenAt (c ∷ order) number place = cond (eqb number c.0) (c.1 place) (GivenAt 
 abbrev pub Refuses : Order → Refusal → Type 0
 Refuses order r = GivenAt order (number_of r) (place_of r)
 
-abbrev pub Answers : Order → (ℕ → Type 0) → Answer → Type 0
-Answers order accepts (Length n) = accepts n
-Answers order accepts (Refused r) = Refuses order r
+abbrev pub Answers : {A : Type 0} → Order → (A → Type 0) → Result A Refusal → Type 0
+Answers order accepts (Ok x) = accepts x
+Answers order accepts (Err r) = Refuses order r
 
 abbrev numbers : Order → List ℕ
 numbers [] = []

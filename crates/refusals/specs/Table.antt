@@ -1,7 +1,5 @@
 -- The table of refusals, document 01's and behind it document 02's, and an answer in the documents' numbers. Assumes nothing.
-use Rattle.std.specs.Prelude.{ℕ}
-use Rattle.refusals.specs.declared.Answer.{Answer}
-use Rattle.refusals.specs.declared.Answer.TheVariants.{Length, Refused}
+use Rattle.std.specs.Prelude.{ℕ, Result, Ok, Err}
 use Rattle.refusals.specs.declared.Refusal.{Refusal}
 use Rattle.refusals.specs.declared.Refusal.TheVariants.{PayloadTooLong, RoomShort, FieldLength, BreakBit, Escape, NoWord, Padding, Identifier, LineByte, StuffBit, LineLength, Crc, FixedBit, Record, NotAcknowledged}
 
@@ -45,7 +43,11 @@ number_of r = (in_table r).refusal
 abbrev pub place_of : Refusal → ℕ
 place_of r = (in_table r).low
 
+-- what is given, in the document's numbers, or a refusal [7.3]
+abbrev pub numbers : {A : Type 0} → (A → Numbers) → Result A Refusal → Numbers
+numbers told (Ok x) = told x
+numbers told (Err r) = in_table r
+
 -- a length, or a refusal [7.3]
-abbrev pub answer_numbers : Answer → Numbers
-answer_numbers (Length n) = given n 0
-answer_numbers (Refused r) = in_table r
+abbrev pub answer_numbers : Result ℕ Refusal → Numbers
+answer_numbers = numbers (λ n. given n 0)

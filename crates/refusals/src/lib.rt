@@ -1,4 +1,5 @@
-// The refusals of documents 01 and 02, each with its number and its place, and the answer of coding and decoding.
+// The refusals of documents 01 and 02, each with its number and its place: the error of every call. What a call gives else stands in a
+// Result, and the buffer that it goes to beside it. [7.3]
 #![tactic(auto)]
 
 ghost use Rattle.std.specs.Prelude.{◌≡◌};
@@ -6,7 +7,7 @@ ghost use Rattle.refusals.specs.Table.{number_of, place_of};
 
 // Why a call is refused, in the order of document 01's table, then of document 02's requests as they came. A variant holds the place
 // where that varies: a bit of the line, the number of a word, an offset in a trace. [8.1, 8.2]
-#[derive(Clone, Copy)]
+#[derive(Clone, Copy, PartialEq, Eq, Debug)]
 pub enum Refusal {
     PayloadTooLong,
     RoomShort,
@@ -25,13 +26,7 @@ pub enum Refusal {
     NotAcknowledged(usize),
 }
 
-// A length, or a refusal. The buffer that a result goes to stays beside it. [7.3]
-#[derive(Clone, Copy)]
-pub enum Answer {
-    Length(usize),
-    Refused(Refusal),
-}
-
+// Two numbers of a refusal, each under its name: From and Into would say neither.
 impl Refusal {
     pub fn number(self) -> u8
         ensures { result ≡ number_of self }
@@ -59,21 +54,21 @@ impl Refusal {
         ensures { result ≡ place_of self }
     {
         match self {
-            Refusal::PayloadTooLong => 0,
-            Refusal::RoomShort => 0,
-            Refusal::FieldLength(place) => place,
-            Refusal::BreakBit => 0,
-            Refusal::Escape(word) => word,
-            Refusal::NoWord(word) => word,
-            Refusal::Padding => 0,
-            Refusal::Identifier => 0,
-            Refusal::LineByte(bit) => bit,
-            Refusal::StuffBit(bit) => bit,
-            Refusal::LineLength(bit) => bit,
-            Refusal::Crc(bit) => bit,
-            Refusal::FixedBit(bit) => bit,
-            Refusal::Record(offset) => offset,
-            Refusal::NotAcknowledged(bit) => bit,
+            Refusal::PayloadTooLong
+            | Refusal::RoomShort
+            | Refusal::BreakBit
+            | Refusal::Padding
+            | Refusal::Identifier => 0,
+            Refusal::FieldLength(place)
+            | Refusal::Escape(place)
+            | Refusal::NoWord(place)
+            | Refusal::LineByte(place)
+            | Refusal::StuffBit(place)
+            | Refusal::LineLength(place)
+            | Refusal::Crc(place)
+            | Refusal::FixedBit(place)
+            | Refusal::Record(place)
+            | Refusal::NotAcknowledged(place) => place,
         }
     }
 }

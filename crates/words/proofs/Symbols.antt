@@ -2,6 +2,7 @@
 --     word_back            the word of x stands for x
 --     word-only            nine bits that stand for x are the word of x
 --     word-once            two bytes never share a word
+--     carried-byte         what carries a byte is that byte's word
 --     nothing-exactly      nine bits stand for nothing exactly when they do not keep the rule
 --     nothing_above        a number above 511 stands for nothing
 --     escapes-are          the escapes are 001000010 and 110111101
@@ -13,12 +14,13 @@ use native.Mathlib.Omega.{arith}
 use lib.Dec.{eqb, ltb}
 use lib.ListN.{get_or}
 use borrow.Author.Tests.{lt-ltb, le-ltb, ltb-true, ltb-false, eqb-true, eqb-false, ne_eqb}
+use Rattle.std.proofs.Common.{Option, Some, None, is_some}
 use Rattle.bits.specs.Rows.{bits}
 use Rattle.words.specs.Words.{keeps_rule, words, word_of}
-use Rattle.words.specs.Symbols.{place_in, symbol_at, symbol_of}
-use Rattle.words.specs.Lists.{is_escape}
+use Rattle.words.specs.Symbols.{place_in, symbol_at, symbol_of, byte}
+use Rattle.words.specs.Lists.{carried, is_escape}
 use Rattle.words.specs.declared.Symbol.{Symbol}
-use Rattle.words.specs.declared.Symbol.TheVariants.{Byte, Escape, Nothing}
+use Rattle.words.specs.declared.Symbol.TheVariants.{Byte, Escape}
 use Rattle.words.proofs.Places.{place_found, place_at, place_is}
 use Rattle.words.proofs.Words.{words-258, J-number, K-number, words-rising, words-exactly}
 use Rattle.words.proofs.Lists.{no-word-above}
@@ -27,18 +29,18 @@ word-place : (x : ℕ) → x < 256 → place_in words (word_of x) ≡ x + 1
 unfolding word_of
 word-place x h = place_at words words-rising (x + 1) (omega (arith, words-258))
 
-pub word_back : (x : ℕ) → x < 256 → symbol_of (word_of x) ≡ Byte x
+pub word_back : (x : ℕ) → x < 256 → symbol_of (word_of x) ≡ byte x
 unfolding symbol_of
-word_back x h = rw (word-place x h) (simp (ne_eqb (x + 1) 0 (λ e. omega arith), lt-ltb (x + 1) 257 (omega arith)) (ap Byte (omega arith)))
+word_back x h = rw (word-place x h) (simp (ne_eqb (x + 1) 0 (λ e. omega arith), lt-ltb (x + 1) 257 (omega arith)) (ap byte (omega arith)))
 
 pub word-once : (x y : ℕ) → x < 256 → y < 256 → word_of x ≡ word_of y → x ≡ y
 word-once x y h k e = cc (word_back x h, word_back y k)
 
-byte-place : (p x : ℕ) → symbol_at p ≡ Byte x → (p ≡ x + 1) × (x < 256)
+byte-place : (p x : ℕ) → symbol_at p ≡ byte x → (p ≡ x + 1) × (x < 256)
 byte-place p x e = go (eqb p 0) refl (ltb p 257) refl (eqb p 257) e
   where
     go : (a : Bool) → eqb p 0 ≡ a → (b : Bool) → ltb p 257 ≡ b → (c : Bool)
-        → cond a Escape (cond b (Byte (p - 1)) (cond c Escape Nothing)) ≡ Byte x → (p ≡ x + 1) × (x < 256)
+        → cond a (Some Escape) (cond b (byte (p - 1)) (cond c (Some Escape) None)) ≡ byte x → (p ≡ x + 1) × (x < 256)
     go true ea b eb c q = let z : ◌≡◌ {A = ℕ} 0 1 = cc in absurd (omega arith)
     go false ea true eb c q =
         let n : p - 1 ≡ x = cc in
@@ -48,23 +50,22 @@ byte-place p x e = go (eqb p 0) refl (ltb p 257) refl (eqb p 257) e
     go false ea false eb true q = let z : ◌≡◌ {A = ℕ} 0 1 = cc in absurd (omega arith)
     go false ea false eb false q = let z : ◌≡◌ {A = ℕ} 0 1 = cc in absurd (omega arith)
 
-pub word-only : (nine x : ℕ) → symbol_of nine ≡ Byte x → (nine ≡ word_of x) × (x < 256)
+pub word-only : (nine x : ℕ) → symbol_of nine ≡ byte x → (nine ≡ word_of x) × (x < 256)
 unfolding symbol_of word_of
 word-only nine x e =
     let p = byte-place (place_in words nine) x e in
     (sym (place_found words nine (omega (arith, words-258))) ∙ ap (λ (k : ℕ). get_or words k 0) p.0, p.1)
 
-something : Symbol → Bool
-something (Byte x) = true
-something Escape = true
-something Nothing = false
+pub carried-byte : (y : Option Symbol) (x : ℕ) → carried y ≡ Some x → y ≡ byte x
+carried-byte (Some (Byte z)) x e = cc
+carried-byte (Some Escape) x e = cc
+carried-byte None x e = cc
 
-something-at : (p : ℕ) → something (symbol_at p) ≡ ltb p 258
-unfolding something
-something-at p = go (eqb p 0) refl (ltb p 257) refl (eqb p 257) refl
+is_some-at : (p : ℕ) → is_some (symbol_at p) ≡ ltb p 258
+is_some-at p = go (eqb p 0) refl (ltb p 257) refl (eqb p 257) refl
   where
     go : (a : Bool) → eqb p 0 ≡ a → (b : Bool) → ltb p 257 ≡ b → (c : Bool) → eqb p 257 ≡ c
-        → something (cond a Escape (cond b (Byte (p - 1)) (cond c Escape Nothing))) ≡ ltb p 258
+        → is_some (cond a (Some Escape) (cond b (byte (p - 1)) (cond c (Some Escape) None))) ≡ ltb p 258
     go true ea b eb c ec = sym (lt-ltb p 258 (omega (arith, eqb-true p 0 ea)))
     go false ea true eb c ec = sym (lt-ltb p 258 (omega (arith, ltb-true p 257 eb)))
     go false ea false eb true ec = sym (lt-ltb p 258 (omega (arith, eqb-true p 257 ec)))
@@ -72,21 +73,18 @@ something-at p = go (eqb p 0) refl (ltb p 257) refl (eqb p 257) refl
         let other = eqb-false p 257 ec in
         sym (le-ltb p 258 (omega (arith, ltb-false p 257 eb)))
 
--- a symbol that is not something is Nothing
-only-nothing : (y : Symbol) → something y ≡ false → y ≡ Nothing
-unfolding something
-only-nothing (Byte x) e = absurd (true≢false e)
-only-nothing Escape e = absurd (true≢false e)
-only-nothing Nothing e = refl
+only-none : (y : Option Symbol) → is_some y ≡ false → y ≡ None
+only-none (Some y) e = absurd (true≢false e)
+only-none None e = refl
 
-pub nothing-exactly : (nine : ℕ) → nine < 512 → (symbol_of nine ≡ Nothing) ↔ (keeps_rule (bits 9 nine) ≡ false)
-unfolding symbol_of something
-nothing-exactly nine h = (λ e. sym exactly ∙ ap something e, λ e. only-nothing (symbol_of nine) (exactly ∙ e))
+pub nothing-exactly : (nine : ℕ) → nine < 512 → (symbol_of nine ≡ None) ↔ (keeps_rule (bits 9 nine) ≡ false)
+unfolding symbol_of
+nothing-exactly nine h = (λ e. sym exactly ∙ ap is_some e, λ e. only-none (symbol_of nine) (exactly ∙ e))
   where
-    exactly : something (symbol_of nine) ≡ keeps_rule (bits 9 nine)
-    exactly = something-at (place_in words nine) ∙ ap (ltb (place_in words nine)) (sym words-258) ∙ words-exactly nine h
+    exactly : is_some (symbol_of nine) ≡ keeps_rule (bits 9 nine)
+    exactly = is_some-at (place_in words nine) ∙ ap (ltb (place_in words nine)) (sym words-258) ∙ words-exactly nine h
 
-pub nothing_above : (nine : ℕ) → 512 ≤ nine → symbol_of nine ≡ Nothing
+pub nothing_above : (nine : ℕ) → 512 ≤ nine → symbol_of nine ≡ None
 unfolding symbol_of
 nothing_above nine h = ap symbol_at (no-word-above nine h)
 
@@ -98,7 +96,7 @@ escape-at : (p : ℕ) → is_escape (symbol_at p) ≡ (eqb p 0 || eqb p 257)
 escape-at p = go (eqb p 0) (ltb p 257) refl (eqb p 257) refl
   where
     go : (a b : Bool) → ltb p 257 ≡ b → (c : Bool) → eqb p 257 ≡ c
-        → is_escape (cond a Escape (cond b (Byte (p - 1)) (cond c Escape Nothing))) ≡ (a || c)
+        → is_escape (cond a (Some Escape) (cond b (byte (p - 1)) (cond c (Some Escape) None))) ≡ (a || c)
     go true b eb c ec = refl
     go false true eb true ec = let less = ltb-true p 257 eb in absurd (omega (arith, eqb-true p 257 ec))
     go false true eb false ec = refl

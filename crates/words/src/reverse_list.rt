@@ -1,5 +1,5 @@
 // The reverse list: for each nine-bit number its place among the words, 0 for J, x + 1 for the word of byte x, 257 for K; and 258
-// where it is no word.
+// where it is no word, as `reverse_list` of specs/ has it: no Option.
 ghost use Rattle.std.specs.Prelude.{◌≡◌};
 ghost use Rattle.words.specs.Lists.{reverse_list};
 
@@ -518,10 +518,8 @@ const PLACES: [u16; 512] = [
     258, // 111111111
 ];
 
-pub(crate) fn list() -> [u16; 512]
-    ensures { result ≡ reverse_list }
+pub(crate) fn in_place() -> &'static [u16; 512]
+    ensures { result.now ≡ reverse_list }
 {
-    // Read in place: without the reference the whole list is copied to the stack at each call.
-    let list: &'static [u16; 512] = &PLACES;
-    *list
+    &PLACES
 }

@@ -1,5 +1,5 @@
 // The short list: for nine bits that carry a byte, the seven lowest bits of the byte, whose highest bit is the first of the
-// nine. For others 128 and their own seven lowest bits: of long rows of one value a compiler makes something slower.
+// nine. For others 128 and their own seven lowest bits, as `short_list` of specs/ has it: no Option, which would take two bytes.
 ghost use Rattle.std.specs.Prelude.{◌≡◌};
 ghost use Rattle.words.specs.Lists.{short_list};
 
@@ -518,10 +518,16 @@ const ENTRIES: [u8; 512] = [
     255, // 111111111
 ];
 
+// The list where it lies: a copy of it takes long.
+pub(crate) fn in_place() -> &'static [u8; 512]
+    ensures { result.now ≡ short_list }
+{
+    &ENTRIES
+}
+
+// A copy of the list, for a caller that lends it: `short-list-settled` in demands is about it.
 pub fn list() -> [u8; 512]
     ensures { result ≡ short_list }
 {
-    // Read in place: without the reference the whole list is copied to the stack at each call.
-    let list: &'static [u8; 512] = &ENTRIES;
-    *list
+    *in_place()
 }

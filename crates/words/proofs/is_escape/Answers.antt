@@ -7,5 +7,5 @@ use Rattle.words.proofs.is_escape.Goals as goal
 pub returns-then-nine-eq66 : goal.returns-then-nine-eq66
 returns-then-nine-eq66 c = sym (escapes-are _ ∙ simp (eq-eqb _ _ c.if-nine-eq66.true))
 
-pub returns : goal.returns
-returns c = sym (escapes-are _ ∙ simp (ne_eqb _ _ c.if-nine-eq66.false))
+pub returns-else-nine-eq66 : goal.returns-else-nine-eq66
+returns-else-nine-eq66 c = sym (escapes-are _ ∙ simp (ne_eqb _ _ c.if-nine-eq66.false))

@@ -6,4 +6,4 @@ use Rattle.words.proofs.look_up.Goals as goal
 
 pub returns : goal.returns
 unfolding symbol_of
-returns c = c.symbol_in.ensures ∙ rw (c.list-list.ensures, reverse-list-at)
+returns c = c.symbol_in.ensures ∙ rw (c.in_place.ensures, reverse-list-at)

@@ -1,53 +1,34 @@
 -- `bits::bytes::store` meets its contract. Assumes nothing.
-use mathlib.Core.Path.{◌≡◌, refl, sym, ap, ◌∙◌}
-use mathlib.Core.List.{List, ◌++◌}
-use Prim.Native.Nat.{ℕ, ◌+◌, ◌-◌}
-use native.Mathlib.Nat.{sub-zero}
+use mathlib.Core.Path.{◌≡◌}
+use mathlib.Core.List.{append_assoc, append-nil}
+use Prim.Native.Nat.{◌-◌}
 use native.Mathlib.Omega.{arith}
-use lib.ListN.{take, drop, length-set, take-append-drop}
-use Rattle.bits.specs.Rows.{bits}
+use Rattle.std.proofs.lemmas.List.{take_all, take_more_set, length-take-le}
 use Rattle.bits.specs.Packing.{packed}
 use Rattle.bits.proofs.Packing.{packed-next}
-use Rattle.bits.proofs.Loading.{store-short, store_long, store-few}
-use Rattle.bits.proofs.Filling.{filled_next}
+use Rattle.bits.proofs.Loading.{store-few}
 use Rattle.bits.proofs.bytes.store.Goals as goal
 
-pub returns-then-bytes-count : goal.returns-then-bytes-count
-returns-then-bytes-count c =
-    record { memory = sym (store-short _ _ _ c.if-bytes-count.true) }
+pub loop-byte-init : goal.loop-byte-init
+loop-byte-init c = record { left = omega arith; written = grind arith }
 
-pub returns-then-count-gt8 : goal.returns-then-count-gt8
-returns-then-count-gt8 c =
-    record { memory = sym (store_long _ _ _ (omega arith) c.if-count-gt8.true) }
-
-pub loop-i-init : goal.loop-i-init
-loop-i-init c = (omega arith, omega arith, refl, rw sub-zero)
-
-pub loop-i-preserved : goal.loop-i-preserved
-loop-i-preserved c =
-    let number = c.args.number in
+pub loop-byte-preserved : goal.loop-byte-preserved
+loop-byte-preserved c =
     let count = c.args.count in
-    let i = c.loop-i.i in
-    let at = c.loop-i.at in
-    let bytes = c.loop-i.bytes in (
-      omega arith,
-      omega arith,
-      simp length-set c.loop-i.invariant.2,
-      filled_next bytes (packed 8 (count - (i + 1)) (bits (at - 8) number)) i count _ (omega arith) (omega arith)
-          ∙ ap (λ (l : List ℕ). take i bytes ++ (l ++ drop count bytes)) (sym (packed-next 8 count i at number (omega arith) (omega arith)))
-          ∙ c.loop-i.invariant.3,
-    )
-
-pub shape_of-bytes : goal.shape_of-bytes
-shape_of-bytes c = c.loop-i.invariant.2
+    let i = c.loop-byte.byte-index in
+    let long = length-take-le count c.args.bytes.now (omega arith) in
+    record {
+      left = omega arith;
+      written = grind (arith, append_assoc, take_more_set c.loop-byte.byte-items i, packed-next 8 count i c.loop-byte.at c.args.number);
+    }
 
 pub returns : goal.returns
 unfolding packed
 returns c =
+    let count = c.args.count in
+    let old = c.args.bytes.now in
+    let long = length-take-le count old (omega arith) in
+    let none : count - c.loop-byte.byte-index ≡ 0 = omega arith in
     record {
-      memory = let count = c.args.count in
-          let e : c.loop-i.i ≡ count = omega arith in
-          let z : count - c.loop-i.i ≡ 0 = omega arith in
-          sym (take-append-drop count c.loop-i.bytes) ∙ rw (z, e) at c.loop-i.invariant.3
-          ∙ sym (store-few _ count c.args.bytes.now (omega arith) (omega arith));
+      memory = grind (arith, append-nil, none, take_all c.loop-byte.byte-index c.loop-byte.byte-items, store-few c.args.number count old);
     }

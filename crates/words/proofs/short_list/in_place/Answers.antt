@@ -1,4 +1,4 @@
--- `words::short_list::list` meets its contract: the whole table is computed from the ordering rule, in one pass over the nine-bit
+-- `words::short_list::in_place` meets its contract: the whole table is computed from the ordering rule, in one pass over the nine-bit
 -- numbers, and compared. Assumes nothing.
 use mathlib.Core.Path.{sym, ◌∙◌}
 use Prim.Native.Nat.{ℕ}
@@ -8,7 +8,7 @@ use Rattle.bits.specs.Neighbours.{equal_neighbours}
 use Rattle.words.specs.Symbols.{symbol_at, symbol_of}
 use Rattle.words.specs.Lists.{entry_of, short_list}
 use Rattle.words.proofs.Lists.{places-passed}
-use Rattle.words.proofs.short_list.list.Goals as goal
+use Rattle.words.proofs.short_list.in_place.Goals as goal
 
 pub returns : goal.returns
 unfolding bits equal_neighbours symbol_of short_list
