@@ -13,22 +13,22 @@ use native.Mathlib.Omega.{arith}
 use lib.Dec.{T, eqb, ltb}
 use lib.ListN.{length}
 use borrow.Author.Tests.{eqb-true, eqb-false, ltb-true, ltb-false}
+use Rattle.std.proofs.Common.{Result, Err, Option, Some, None}
 use Rattle.bits.specs.Same.{same}
 use Rattle.bits.proofs.Same.{same-eq, eq-same}
-use Rattle.refusals.specs.declared.Answer.{Answer}
-use Rattle.refusals.specs.declared.Answer.TheVariants.{Refused}
 use Rattle.refusals.specs.declared.Refusal.{Refusal}
 use Rattle.refusals.specs.Table.{number_of, place_of}
 use Rattle.refusals.specs.Among.{Among}
 use Rattle.refusals.proofs.Given.{Order, GivenAt, Answers, number-among}
 use Rattle.words.specs.declared.Symbol.{Symbol}
-use Rattle.words.specs.declared.Symbol.TheVariants.{Byte, Escape, Nothing}
+use Rattle.words.specs.declared.Symbol.TheVariants.{Byte, Escape}
 use Rattle.field.specs.Sizes.{break_bit, padding_bits}
 use Rattle.field.specs.Padding.{padding}
 use Rattle.decoding.specs.Parts.{size_of, break_part, padding_part, symbols_of}
 use Rattle.decoding.specs.Decode.{decode_answer, byte_of, payload_of}
 use Rattle.decoding.proofs.FieldParts.{LengthAllowed}
 use Rattle.decoding.proofs.DecodeAnswers.{Begun, decode-long, decode-one, decode-short, decode-broken, decode-escape, decode-no-word, decode-padding, decode-accepts}
+use Rattle.words.specs.Symbols.{byte}
 
 -- lists that do not pass the test are not equal
 differ : (l m : List ℕ) → same l m ≡ false → l ≢ m
@@ -37,25 +37,25 @@ differ l m d e = let z : true ≡ false = sym (eq-same l) ∙ ap (same l) e ∙ 
 -- ---- the words
 
 -- of what words stand for
-abbrev pub FirstAt : List Symbol → Symbol → ℕ → Type 0
-FirstAt l y word = (bytes : List ℕ) × (rest : List Symbol) × (l ≡ map Byte bytes ++ (y ∷ rest)) × (length bytes ≡ word)
+abbrev pub FirstAt : List (Option Symbol) → Option Symbol → ℕ → Type 0
+FirstAt l y word = (bytes : List ℕ) × (rest : List (Option Symbol)) × (l ≡ map byte bytes ++ (y ∷ rest)) × (length bytes ≡ word)
 
 -- the first that is no byte, or all are
-data Words (l : List Symbol) : Type 0 where
-  first-escape : (bytes : List ℕ) (rest : List Symbol) → l ≡ map Byte bytes ++ (Escape ∷ rest) → Words l
-  first-nothing : (bytes : List ℕ) (rest : List Symbol) → l ≡ map Byte bytes ++ (Nothing ∷ rest) → Words l
-  all-bytes : l ≡ map Byte (map byte_of l) → Words l
+data Words (l : List (Option Symbol)) : Type 0 where
+  first-escape : (bytes : List ℕ) (rest : List (Option Symbol)) → l ≡ map byte bytes ++ (Some Escape ∷ rest) → Words l
+  first-nothing : (bytes : List ℕ) (rest : List (Option Symbol)) → l ≡ map byte bytes ++ (None ∷ rest) → Words l
+  all-bytes : l ≡ map byte (map byte_of l) → Words l
 
-words : (l : List Symbol) → Words l
+words : (l : List (Option Symbol)) → Words l
 words [] = all-bytes refl
-words (Escape ∷ l) = first-escape [] l refl
-words (Nothing ∷ l) = first-nothing [] l refl
-words (Byte x ∷ l) = behind (words l)
+words (Some Escape ∷ l) = first-escape [] l refl
+words (None ∷ l) = first-nothing [] l refl
+words (Some (Byte x) ∷ l) = behind (words l)
   where
-    behind : Words l → Words (Byte x ∷ l)
-    behind (first-escape bytes rest e) = first-escape (x ∷ bytes) rest (ap (Byte x ∷◌) e)
-    behind (first-nothing bytes rest e) = first-nothing (x ∷ bytes) rest (ap (Byte x ∷◌) e)
-    behind (all-bytes e) = all-bytes (ap (Byte x ∷◌) e)
+    behind : Words l → Words (byte x ∷ l)
+    behind (first-escape bytes rest e) = first-escape (x ∷ bytes) rest (ap (byte x ∷◌) e)
+    behind (first-nothing bytes rest e) = first-nothing (x ∷ bytes) rest (ap (byte x ∷◌) e)
+    behind (all-bytes e) = all-bytes (ap (byte x ∷◌) e)
 
 -- ---- the answers
 
@@ -73,7 +73,7 @@ module _ (field : List ℕ) (room : ℕ) where
   begun h = record { allowed = allowed h.0; fits = h.1; break-is = h.2 }
 
   abbrev pub WordsBytes : Type 0
-  WordsBytes = symbols_of field ≡ map Byte (payload_of field)
+  WordsBytes = symbols_of field ≡ map byte (payload_of field)
 
   abbrev right_padding : List ℕ
   right_padding = padding 0 (padding_bits (size_of field))
@@ -84,15 +84,15 @@ module _ (field : List ℕ) (room : ℕ) where
       (3, λ place. ((length field ≡ 1) ⊎ (8 < length field)) × (place ≡ 0))
       ∷ (2, λ place. LengthRight × (room < size_of field))
       ∷ (4, λ place. LengthRight × (size_of field ≤ room) × (break_part field ≢ break_bit (length field)))
-      ∷ (5, λ word. Started × FirstAt (symbols_of field) Escape word)
-      ∷ (6, λ word. Started × FirstAt (symbols_of field) Nothing word)
+      ∷ (5, λ word. Started × FirstAt (symbols_of field) (Some Escape) word)
+      ∷ (6, λ word. Started × FirstAt (symbols_of field) None word)
       ∷ (7, λ place. Started × WordsBytes × (padding_part field ≢ right_padding))
       ∷ []
 
-  abbrev pub Decoded : Answer → Type 0
+  abbrev pub Decoded : Result ℕ Refusal → Type 0
   Decoded = Answers decode_order (λ n. Started × WordsBytes × (padding_part field ≡ right_padding) × (n ≡ size_of field))
 
-  given : {a : Answer} → decode_answer field room ≡ a → Decoded a → Decoded (decode_answer field room)
+  given : {a : Result ℕ Refusal} → decode_answer field room ≡ a → Decoded a → Decoded (decode_answer field room)
   given e h = subst Decoded (sym e) h
 
   by-padding : Started → WordsBytes → (right : Bool) → same (padding_part field) right_padding ≡ right → Decoded (decode_answer field room)
@@ -124,7 +124,7 @@ module _ (field : List ℕ) (room : ℕ) where
   pub decode-given : Decoded (decode_answer field room)
   decode-given = by_length (eqb (length field) 1) refl (ltb 8 (length field)) refl
 
-  pub decode-numbers : LengthAllowed field → (r : Refusal) → decode_answer field room ≡ Refused r
+  pub decode-numbers : LengthAllowed field → (r : Refusal) → decode_answer field room ≡ Err r
       → Among (2 ∷ 4 ∷ 5 ∷ 6 ∷ 7 ∷ []) (number_of r)
   decode-numbers right r e = go (number-among decode_order r given-here)
     where

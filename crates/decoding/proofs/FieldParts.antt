@@ -13,6 +13,7 @@ use native.Mathlib.Omega.{arith}
 use lib.Dec.{lit<, eqb}
 use lib.ListN.{length, take, drop, length-map}
 use lib.Seq.{take_at, drop_at, drop-drop}
+use Rattle.std.proofs.Common.{Option, Some, None}
 use Rattle.bits.specs.Below.{Below}
 use Rattle.bits.specs.Rows.{bits, number}
 use Rattle.bits.specs.Packing.{unpacked, packed}
@@ -22,7 +23,7 @@ use Rattle.bits.proofs.Packing.{unpacked-length, packed-length}
 use Rattle.bits.proofs.Same.{same_number}
 use Rattle.words.specs.Symbols.{symbol_of}
 use Rattle.words.specs.declared.Symbol.{Symbol}
-use Rattle.words.specs.declared.Symbol.TheVariants.{Byte, Escape, Nothing}
+use Rattle.words.specs.declared.Symbol.TheVariants.{Byte, Escape}
 use Rattle.words.proofs.Symbols.{word-only}
 use Rattle.field.specs.Sizes.{field_bytes, break_bit, padding_bits}
 use Rattle.field.specs.Padding.{padding}
@@ -124,10 +125,10 @@ padding-test field v allowed held =
 byte-below : (nine : ℕ) → byte_of (symbol_of nine) < 256
 byte-below nine = go (symbol_of nine) refl
   where
-    go : (y : Symbol) → symbol_of nine ≡ y → byte_of y < 256
-    go (Byte x) e = (word-only nine x e).1
-    go Escape e = lit< tt
-    go Nothing e = lit< tt
+    go : (y : Option Symbol) → symbol_of nine ≡ y → byte_of y < 256
+    go (Some (Byte x)) e = (word-only nine x e).1
+    go (Some Escape) e = lit< tt
+    go None e = lit< tt
 
 bytes_below : (nines : List ℕ) → Below 256 (map byte_of (map symbol_of nines))
 bytes_below [] = tt

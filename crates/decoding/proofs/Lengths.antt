@@ -6,7 +6,7 @@ use mathlib.Core.List.{List}
 use Prim.Native.Nat.{ℕ}
 use native.Mathlib.Omega.{arith}
 use lib.ListN.{length, get_or}
-use Rattle.refusals.specs.declared.Answer.TheVariants.{Length}
+use Rattle.std.proofs.Common.{Ok}
 use Rattle.field.specs.Sizes.{field_bytes}
 use Rattle.field.specs.Table.{row_of, rows}
 use Rattle.field.proofs.Sizes.{field_bytes-back}
@@ -15,11 +15,11 @@ use Rattle.decoding.specs.Decode.{decode_answer, payload_of}
 use Rattle.decoding.proofs.FieldParts.{payload-length}
 use Rattle.decoding.proofs.Accepted.{accepted}
 
-pub decode-length : (field : List ℕ) (room n : ℕ) → decode_answer field room ≡ Length n → length field ≡ (get_or rows n (row_of 0)).bytes
+pub decode-length : (field : List ℕ) (room n : ℕ) → decode_answer field room ≡ Ok n → length field ≡ (get_or rows n (row_of 0)).bytes
 decode-length field room n e =
     let a = accepted field room n e in
     let allowed = a.begun.allowed in
     sym (row-bytes n (omega (arith, a.size_is, allowed.at_most)) ∙ ap field_bytes a.size_is ∙ field_bytes-back (length field) allowed.not-one)
 
-pub decode-result : (field : List ℕ) (room n : ℕ) → decode_answer field room ≡ Length n → n ≡ length (payload_of field)
+pub decode-result : (field : List ℕ) (room n : ℕ) → decode_answer field room ≡ Ok n → n ≡ length (payload_of field)
 decode-result field room n e = (accepted field room n e).size_is ∙ sym (payload-length field)

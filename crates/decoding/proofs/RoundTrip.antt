@@ -10,14 +10,13 @@ use Prim.Native.Nat.{ℕ, ◌-◌, ◌*◌, ◌≤◌}
 use native.Mathlib.Omega.{arith}
 use lib.ListN.{length, take, drop, length-map, length-drop, take-append-drop}
 use lib.Seq.{take_at, drop_at, drop-drop}
+use Rattle.std.proofs.Common.{Ok}
 use Rattle.bits.specs.Below.{Below}
 use Rattle.bits.specs.Packing.{unpacked, packed}
 use Rattle.bits.proofs.Below.{below-drop}
 use Rattle.bits.proofs.Packing.{unpacked-below, packed-unpacked, unpacked-packed}
-use Rattle.refusals.specs.declared.Answer.TheVariants.{Length}
 use Rattle.words.specs.Words.{word_of}
-use Rattle.words.specs.Symbols.{symbol_of}
-use Rattle.words.specs.declared.Symbol.TheVariants.{Byte}
+use Rattle.words.specs.Symbols.{symbol_of, byte}
 use Rattle.words.proofs.Words.{word_below}
 use Rattle.words.proofs.Symbols.{word_back, word-only}
 use Rattle.field.specs.Sizes.{field_bytes, break_bit, padding_bits}
@@ -40,11 +39,11 @@ words-of-bytes-below : (payload : List ℕ) → Below 256 payload → Below 512 
 words-of-bytes-below [] h = tt
 words-of-bytes-below (x ∷ l) h = (word_below x h.0, words-of-bytes-below l h.1)
 
-words_back : (payload : List ℕ) → Below 256 payload → map symbol_of (map word_of payload) ≡ map Byte payload
+words_back : (payload : List ℕ) → Below 256 payload → map symbol_of (map word_of payload) ≡ map byte payload
 words_back [] h = refl
 words_back (x ∷ l) h = ap₂ ◌∷◌ (word_back x h.0) (words_back l h.1)
 
-bytes_back : (payload : List ℕ) → map byte_of (map Byte payload) ≡ payload
+bytes_back : (payload : List ℕ) → map byte_of (map byte payload) ≡ payload
 bytes_back [] = refl
 bytes_back (x ∷ l) = ap (x ∷◌) (bytes_back l)
 
@@ -84,7 +83,7 @@ padding-of-field payload h =
     ∙ drop_at (word_bits payload) (padding 0 (padding_bits (length payload))) words (word_bits-length payload ∙ ap (9 *◌) (sym (field-size payload)))
     ∙ ap (λ (n : ℕ). padding 0 (padding_bits n)) (sym (field-size payload))
 
-symbols-of-field : (payload : List ℕ) → Below 256 payload → length payload ≤ 7 → symbols_of (field_of payload) ≡ map Byte payload
+symbols-of-field : (payload : List ℕ) → Below 256 payload → length payload ≤ 7 → symbols_of (field_of payload) ≡ map byte payload
 symbols-of-field payload b h = ap (map symbol_of) (words-of-field payload b h) ∙ words_back payload b
 
 pub payload-of-field : (payload : List ℕ) → Below 256 payload → length payload ≤ 7 → payload_of (field_of payload) ≡ payload
@@ -92,7 +91,7 @@ unfolding payload_of
 payload-of-field payload b h = ap (map byte_of) (symbols-of-field payload b h) ∙ bytes_back payload
 
 pub decode-encode : (payload : List ℕ) (room : ℕ) → Below 256 payload → length payload ≤ 7 → length payload ≤ room
-    → decode_answer (field_of payload) room ≡ Length (length payload)
+    → decode_answer (field_of payload) room ≡ Ok (length payload)
 decode-encode payload room b h g =
     let n = field-length payload in
     let size = field-size payload in
@@ -106,18 +105,18 @@ decode-encode payload room b h g =
       fits = omega arith;
       break-is = break-of-field payload h;
     } in
-    decode-accepts (field_of payload) payload room begun (symbols-of-field payload b h) (padding-of-field payload h) ∙ ap Length size
+    decode-accepts (field_of payload) payload room begun (symbols-of-field payload b h) (padding-of-field payload h) ∙ ap Ok size
 
 -- ---- decode, then encode
 
 -- nine bits that stand for bytes are the words of those bytes
-words-only : (nines payload : List ℕ) → map symbol_of nines ≡ map Byte payload → nines ≡ map word_of payload
+words-only : (nines payload : List ℕ) → map symbol_of nines ≡ map byte payload → nines ≡ map word_of payload
 words-only [] [] e = refl
 words-only [] (x ∷ l) e = absurd (omega (arith, ap length e))
 words-only (nine ∷ nines) [] e = absurd (omega (arith, ap length e))
 words-only (nine ∷ nines) (x ∷ l) e =
-    let first : symbol_of nine ≡ Byte x = cc in
-    let rest : map symbol_of nines ≡ map Byte l = cc in
+    let first : symbol_of nine ≡ byte x = cc in
+    let rest : map symbol_of nines ≡ map byte l = cc in
     ap₂ ◌∷◌ (word-only nine x first).0 (words-only nines l rest)
 
 -- the bits of an accepted field are those of the field of its payload
@@ -138,7 +137,7 @@ accepted-bits field room n a =
     (sym (take-append-drop (9 * size) rest) ∙ ap₂ ◌++◌ words last)
     ∙ ap (λ (k : ℕ). break_bit (field_bytes k) ++ (word_bits (payload_of field) ++ padding 0 (padding_bits k))) (sym (payload-length field))
 
-pub field-of-payload : (field : List ℕ) (room n : ℕ) → Below 256 field → decode_answer field room ≡ Length n
+pub field-of-payload : (field : List ℕ) (room n : ℕ) → Below 256 field → decode_answer field room ≡ Ok n
     → (field_of (payload_of field) ≡ field) × (length (payload_of field) ≡ n) × (n ≤ 7) × Below 256 (payload_of field)
 unfolding field_of
 field-of-payload field room n b e =
@@ -158,6 +157,6 @@ pub one-payload : (p q : List ℕ) → Below 256 p → Below 256 q → length p 
 one-payload p q b c h g e = sym (payload-of-field p b h) ∙ ap payload_of e ∙ payload-of-field q c g
 
 pub one_field : (f g : List ℕ) (room room' n n' : ℕ) → Below 256 f → Below 256 g
-    → decode_answer f room ≡ Length n → decode_answer g room' ≡ Length n' → payload_of f ≡ payload_of g → f ≡ g
+    → decode_answer f room ≡ Ok n → decode_answer g room' ≡ Ok n' → payload_of f ≡ payload_of g → f ≡ g
 one_field f g room room' n n' b c e e' same =
     sym (field-of-payload f room n b e).0 ∙ ap field_of same ∙ (field-of-payload g room' n' c e').0

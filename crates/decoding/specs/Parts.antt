@@ -1,5 +1,5 @@
 -- The parts of a field that is to be decoded. Assumes nothing.
-use Rattle.std.specs.Prelude.{ℕ, ◌+◌, ◌-◌, ◌*◌, List, map, length, take, drop}
+use Rattle.std.specs.Prelude.{ℕ, ◌+◌, ◌-◌, ◌*◌, List, map, length, take, drop, Option}
 use Rattle.bits.specs.Packing.{unpacked, packed}
 use Rattle.words.specs.Symbols.{symbol_of}
 use Rattle.words.specs.declared.Symbol.{Symbol}
@@ -26,5 +26,5 @@ unfoldable pub padding_part : List ℕ → List ℕ
 padding_part field = drop (words_start field + 9 * size_of field) (unpacked 8 field)
 
 -- what the words stand for [10.3]
-abbrev pub symbols_of : List ℕ → List Symbol
+abbrev pub symbols_of : List ℕ → List (Option Symbol)
 symbols_of field = map symbol_of (words_part field)

@@ -13,39 +13,38 @@ ghost use Rattle.decoding.specs.Number.{number_answer};
 mod by_size;
 mod reading;
 
-use refusals::{Answer, Refusal};
-use words::short_list;
+use bits::bytes;
+use field::encoding::Coded;
+use refusals::Refusal;
 
 // Decodes a field: the length of its payload, which stands at the start of `payload`. Refused with 2 to 7.
-pub fn decode(field: &[u8], payload: &mut [u8]) -> Answer
+pub fn decode(field: &[u8], payload: &mut [u8]) -> Result<usize, Refusal>
     ensures answer { result ≡ decode_answer field.now (length payload.old) }
     ensures memory { payload.new ≡ after (answer_numbers result) (payload_of field.now) payload.old }
 {
     let n = field.len();
-    if n == 1 {
-        return Answer::Refused(Refusal::FieldLength(0));
-    }
-    if n == 0 {
-        return Answer::Length(0);
-    }
-    if 8 < n {
-        return Answer::Refused(Refusal::FieldLength(0));
-    }
-    by_size::in_bytes(field, payload)
+    // Of more than 8 bytes the number is 0: their length is refused.
+    let number = bytes::load(field, n);
+    decode_number(Coded { n, number }, payload)
 }
 
-// Decodes the field of n bytes that is one number: the length of its payload, which stands at the start of `payload`. Refused with 2
-// to 7, with 3 also where the number has bits above those of n bytes.
-pub fn decode_number(n: usize, number: u64, payload: &mut [u8]) -> Answer
-    ensures answer { result ≡ number_answer n number (length payload.old) }
-    ensures memory { payload.new ≡ after (answer_numbers result) (payload_of (field_from n number)) payload.old }
+// Decodes the field that is one number: the length of its payload, which stands at the start of `payload`. Refused with 2 to 7, with 3
+// also where the number has bits above those of the field's bytes. Inlined into `decode` and the line reader, whose bars ask for it.
+#[inline(always)]
+pub fn decode_number(field: Coded, payload: &mut [u8]) -> Result<usize, Refusal>
+    ensures answer { result ≡ number_answer field.n field.number (length payload.old) }
+    ensures memory { payload.new ≡ after (answer_numbers result) (payload_of (field_from field.n field.number)) payload.old }
 {
-    if n == 0 {
-        if number != 0 {
-            return Answer::Refused(Refusal::FieldLength(0));
-        }
-        return Answer::Length(0);
+    let Coded { n, number } = field;
+    match n {
+        0 if number == 0 => Ok(0),
+        2 => by_size::sized::<1>(number, payload),
+        3 => by_size::sized::<2>(number, payload),
+        4 => by_size::sized::<3>(number, payload),
+        5 => by_size::sized::<4>(number, payload),
+        6 => by_size::sized::<5>(number, payload),
+        7 => by_size::sized::<6>(number, payload),
+        8 => by_size::sized::<7>(number, payload),
+        _ => Err(Refusal::FieldLength(0)),
     }
-    let list = short_list::list();
-    by_size::in_number(&list, n, number, payload)
 }

@@ -8,8 +8,8 @@ use native.Mathlib.Omega.{arith}
 use lib.Dec.{ltb, lit<}
 use lib.ListN.{length}
 use borrow.Author.Tests.{ltb-false}
+use Rattle.std.proofs.Common.{Ok, Err}
 use Rattle.refusals.specs.Table.{answer_numbers}
-use Rattle.refusals.specs.declared.Answer.TheVariants.{Length, Refused}
 use Rattle.refusals.specs.declared.Refusal.TheVariants as refusal
 use Rattle.field.specs.Sizes.{field_bytes}
 use Rattle.field.specs.Encode.{encode_answer}
@@ -23,7 +23,7 @@ encode-small payload room = go (ltb 7 size) refl (ltb room (field_bytes size))
     size = length payload
 
     go : (long : Bool) → ltb 7 size ≡ long → (short : Bool)
-        → (answer_numbers (cond long (Refused refusal.PayloadTooLong) (cond short (Refused refusal.RoomShort) (Length (field_bytes size))))).low < 9
+        → (answer_numbers (cond long (Err refusal.PayloadTooLong) (cond short (Err refusal.RoomShort) (Ok (field_bytes size))))).low < 9
     go true e short = lit< tt
     go false e true = lit< tt
     go false e false = omega (arith, field_bytes-few size (ltb-false 7 size e))

@@ -14,21 +14,21 @@ pub mod padding;
 mod storing;
 pub mod table;
 
-use refusals::{Answer, Refusal};
-use words::word_list;
+use refusals::Refusal;
 
 // Codes a payload: the length of its field, which stands at the start of `field`. Refused with 1 or 2.
-pub fn encode(payload: &[u8], field: &mut [u8]) -> Answer
+pub fn encode(payload: &[u8], field: &mut [u8]) -> Result<usize, Refusal>
     ensures answer { result ≡ encode_answer payload.now (length field.old) }
     ensures memory { field.new ≡ after (answer_numbers result) (field_of payload.now) field.old }
 {
-    let size = payload.len();
-    if 7 < size {
-        return Answer::Refused(Refusal::PayloadTooLong);
+    let coded = match encoding::code(payload) {
+        Ok(coded) => coded,
+        // `?` calls std, whose code `Linked` cannot show.
+        Err(refusal) => return Err(refusal),
+    };
+    if field.len() < coded.n {
+        return Err(Refusal::RoomShort);
     }
-    if size == 0 {
-        return Answer::Length(0);
-    }
-    let list = word_list::list();
-    storing::by_size(&list, payload, field)
+    storing::store(coded, field);
+    Ok(coded.n)
 }

@@ -3,7 +3,7 @@ ghost use Rattle.std.specs.Prelude.{◌≡◌};
 ghost use Rattle.field.specs.Coded.{padding_number};
 
 // The number of `count` bits that alternate from the first: cut from 01010101, or from 10101010. Of more than eight bits, or from
-// what is no bit, it is 0.
+// what is no bit, it is 0, as `padding_number` (PROMISES) says: no Option.
 pub fn number_of(first: u64, count: usize) -> u64
     ensures { result ≡ padding_number first count }
 {

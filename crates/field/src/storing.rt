@@ -1,45 +1,24 @@
-// Coding a payload into a lent buffer.
-ghost use Rattle.std.specs.Prelude.{◌≡◌, ◌<◌, length};
-ghost use Rattle.refusals.specs.Table.{answer_numbers};
-ghost use Rattle.refusals.specs.After.{after};
-ghost use Rattle.words.specs.Lists.{word_list};
-ghost use Rattle.field.specs.Field.{field_of};
-ghost use Rattle.field.specs.Encode.{encode_answer};
+// Storing a field.
+ghost use Rattle.std.specs.Prelude.{◌≡◌};
+ghost use Rattle.bits.specs.Loading.{stored};
 
-use crate::{encoding, table};
+use crate::encoding::Coded;
 use bits::bytes;
-use refusals::{Answer, Refusal};
 
-// Codes a payload of 1 to 7 bytes: in each case the size is a number that the compiler knows.
-pub(crate) fn by_size(list: &[u16; 256], payload: &[u8], field: &mut [u8]) -> Answer
-    requires { (list.now ≡ word_list) × (0 < length payload.now) × (length payload.now < 8) }
-    ensures answer { result ≡ encode_answer payload.now (length field.old) }
-    ensures memory { field.new ≡ after (answer_numbers result) (field_of payload.now) field.old }
+// At the start of a buffer with room for it. The count of each field that has bytes is a literal, so that the compiler unrolls the loop
+// over them: else encoding misses its bars at sizes 1, 2 and 7.
+pub(crate) fn store(coded: Coded, field: &mut [u8])
+    ensures memory { field.new ≡ stored coded.number coded.n field.old }
 {
-    let size = payload.len();
-    match size {
-        1 => sized(list, payload, 1, field),
-        2 => sized(list, payload, 2, field),
-        3 => sized(list, payload, 3, field),
-        4 => sized(list, payload, 4, field),
-        5 => sized(list, payload, 5, field),
-        6 => sized(list, payload, 6, field),
-        _ => sized(list, payload, 7, field),
+    let number = coded.number;
+    match coded.n {
+        2 => bytes::store(number, 2, field),
+        3 => bytes::store(number, 3, field),
+        4 => bytes::store(number, 4, field),
+        5 => bytes::store(number, 5, field),
+        6 => bytes::store(number, 6, field),
+        7 => bytes::store(number, 7, field),
+        8 => bytes::store(number, 8, field),
+        n => bytes::store(number, n, field),
     }
-}
-
-// Codes a payload of `size` bytes.
-fn sized(list: &[u16; 256], payload: &[u8], size: usize, field: &mut [u8]) -> Answer
-    requires { (list.now ≡ word_list) × (length payload.now ≡ size) × (size < 8) }
-    ensures answer { result ≡ encode_answer payload.now (length field.old) }
-    ensures memory { field.new ≡ after (answer_numbers result) (field_of payload.now) field.old }
-{
-    let row = table::row_of(size);
-    let n = row.bytes;
-    if field.len() < n {
-        return Answer::Refused(Refusal::RoomShort);
-    }
-    let number = encoding::field_number(list, row, payload, size);
-    bytes::store(number, n, field);
-    Answer::Length(n)
 }

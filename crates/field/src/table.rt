@@ -3,7 +3,7 @@ ghost use Rattle.std.specs.Prelude.{◌≡◌, get_or};
 ghost use Rattle.field.specs.Table.{row_of, rows};
 
 // What the size of a payload decides of its field. [3.7]
-#[derive(Clone, Copy)]
+#[derive(Clone, Copy, PartialEq, Eq, Debug)]
 pub struct Row {
     // How many bytes the field has, which is the DLC.
     pub bytes: usize,
@@ -57,13 +57,13 @@ const ROWS: [Row; 8] = [
 ];
 
 // The rows of the sizes 0 to 7.
-fn rows() -> [Row; 8]
-    ensures { result ≡ rows }
+fn rows() -> &'static [Row; 8]
+    ensures { result.now ≡ rows }
 {
-    ROWS
+    &ROWS
 }
 
-// The row of a size; above 7, that of the empty payload.
+// The row of a size; above 7, that of the empty payload, as the contract of `row_of` (PROMISES) has it: no Option.
 pub fn row_of(size: usize) -> Row
     ensures { result ≡ get_or rows size (row_of 0) }
 {

@@ -1,19 +1,16 @@
--- `field::encode` meets its contract: a payload that is too long is refused, and the empty payload has the empty field. Assumes
--- nothing.
-use mathlib.Core.Path.{refl, sym}
-use Rattle.field.proofs.EncodeAnswers.{encode-long, encode-empty}
+-- `field::encode` meets its contract: where there is room, the field's number is stored. Assumes nothing.
+use mathlib.Core.Path.{refl, sym, ◌∙◌}
+use Rattle.field.proofs.EncodeAnswers.{encode-refused, encode-little, encode-stores}
 use Rattle.field.proofs.encode.Goals as goal
 
-pub returns-then-size-gt7 : goal.returns-then-size-gt7
-returns-then-size-gt7 c =
-    record {
-      answer = sym (encode-long _ _ c.if-size-gt7.true);
-      memory = refl;
-    }
+pub returns-in-Err-clause-answer : goal.returns-in-Err-clause-answer
+returns-in-Err-clause-answer c = encode-refused _ _ _ (sym c.code.ensures ∙ c.in-Err.is)
 
-pub returns-then-size-eq0 : goal.returns-then-size-eq0
-returns-then-size-eq0 c =
-    let empty = encode-empty _ _ c.if-size-eq0.true in record {
-      answer = sym empty.0;
-      memory = rw empty.1;
-    }
+pub returns-then-field-coded-clause-answer : goal.returns-then-field-coded-clause-answer
+returns-then-field-coded-clause-answer c = encode-little _ _ _ (sym c.code.ensures ∙ c.in-Ok.is) c.if-field-coded.true
+
+pub returns-clause-answer : goal.returns-clause-answer
+returns-clause-answer c = (encode-stores _ _ _ (sym c.code.ensures ∙ c.in-Ok.is) _ refl c.if-field-coded.false).0
+
+pub returns-clause-memory : goal.returns-clause-memory
+returns-clause-memory c = c.store.ensures.memory ∙ (encode-stores _ _ _ (sym c.code.ensures ∙ c.in-Ok.is) _ refl c.if-field-coded.false).1

@@ -13,51 +13,44 @@ use Rattle.bits.specs.Packing.{unpacked}
 use Rattle.bits.proofs.Packing.{number-unpacked}
 use Rattle.words.specs.Words.{word_of}
 use Rattle.words.proofs.Words.{word_below}
-use Rattle.words.proofs.Lists.{word-list-at}
 use Rattle.field.proofs.encoding.with_words.Goals as goal
-use Rattle.field.proofs.encoding.with_words.Goals.{After-word_in}
+use Rattle.field.proofs.encoding.with_words.Goals.{After-word}
+use Rattle.field.proofs.encoding.with_words.Given.{Over}
 
 -- a number of 1 + 9 i bits leaves room for a word more
 room : (i : ℕ) → i < 7 → 512 ^ i ≤ 512 ^ 6
 room i h = pow-le-pow_right {n = 512} (lit< tt) {j = 6} (omega arith)
 
--- the byte that a turn reads, and its word
-byte : (c : After-word_in)
-    → get_or c.args.payload.now c.loop-i.i 0 < 256
-byte c = omega (arith, c.shared_slice_known-in-loop-i-1.given c.loop-i.i)
+byte : (g : Over) (c : After-word g) → get_or c.args.payload.now c.loop-i.i 0 < 256
+byte g c = omega (arith, c.type_inv.payload c.loop-i.i)
 
-word : (c : After-word_in)
-    → c.word_in.result ≡ word_of (get_or c.args.payload.now c.loop-i.i 0)
-word c = c.word_in.ensures ∙ rw c.requires.0 (word-list-at _ (byte c))
+word : (g : Over) (c : After-word g) → c.word.result ≡ word_of (get_or c.args.payload.now c.loop-i.i 0)
+word g c = c.word.ensures
 
-below : (c : After-word_in) → c.word_in.result < 512
-below c = rw (word c) (word_below _ (byte c))
+below : (g : Over) (c : After-word g) → c.word.result < 512
+below g c = rw (word g c) (word_below _ (byte g c))
 
 pub loop-i-init : goal.loop-i-init
-loop-i-init c = (omega arith, refl, omega arith)
+loop-i-init g c = record { left = refl; few = omega arith }
 
 pub overflow_mul-number : goal.overflow_mul-number
-overflow_mul-number c = omega (arith, room c.loop-i.i (omega arith))
+overflow_mul-number g c = omega (arith, room c.loop-i.i (omega arith))
 
 pub overflow_add-number : goal.overflow_add-number
-overflow_add-number c = omega (arith, below (goal.at.overflow_add-number c).After-word_in, room c.loop-i.i (omega arith))
+overflow_add-number g c = omega (arith, below g (goal.at.overflow_add-number g c).After-word, room c.loop-i.i (omega arith))
 
 pub loop-i-preserved : goal.loop-i-preserved
-loop-i-preserved c =
-    let after-word_in = (goal.at.loop-i-preserved c).After-word_in in
-    let i = c.loop-i.i in
-    let n = c.loop-i.number in
-    let payload = c.args.payload.now in
-    let h : i < length payload = omega arith in (
-      omega arith,
-      rw (word after-word_in, add-one)
-          (sym (number-unpacked 9 n _ _ (word_below _ (byte after-word_in)))
-          ∙ rw (drop-cons {A = ℕ} payload i 0 h) at c.loop-i.invariant.1),
-      omega (arith, below after-word_in, pow-add 512 i 1),
-    )
+loop-i-preserved g c =
+    let after-word = (goal.at.loop-i-preserved g c).After-word in
+    let i = c.loop-i.i in record {
+      left = rw (word g after-word, add-one)
+          (sym (number-unpacked 9 c.loop-i.number _ _ (word_below _ (byte g after-word)))
+          ∙ rw (drop-cons {A = ℕ} c.args.payload.now i 0 (omega (arith, c.requires.1))) at c.loop-i.invariant.left);
+      few = omega (arith, below g after-word, pow-add 512 i 1);
+    }
 
 pub returns : goal.returns
 unfolding number unpacked
-returns c =
+returns g c =
     let e : c.loop-i.i ≡ length c.args.payload.now = omega arith in
-    rw (e, drop-length) at c.loop-i.invariant.1
+    rw (e, drop-length) at c.loop-i.invariant.left
