@@ -1,8 +1,9 @@
 -- The laws of sending four bits at a time. Assumes nothing.
 --     run-fours, drawn-fours, sent-fours    the run that the next four leave, the stuff bits they draw, and what is sent
 --     sent-row         four bits as they are sent; sent-run the run they leave; sent-drawn whether a stuff bit is among them
---     sent-below       six bits hold it; sent-length how many bits are sent
---     sent-list-at, byte-list-at    what the lists hold; bytes-are the bytes of such a number (bytes_in)
+--     sent-below       six bits hold it
+--     run-left, four-sent, five-sent    the same of the number that the list holds, without a stuff bit and with one
+--     sent-list-at, byte-list-at    what the lists hold
 --     start-row, start-quiet, start-run    the first three bits of a header go out as they are, and the run that they leave
 --     quiet-run        four bits that draw no stuff bit leave the run that ends them
 use mathlib.Core.Path.{◌≡◌, sym, ap, ap₂, ◌∙◌, subst}
@@ -10,8 +11,8 @@ use mathlib.Core.Bool.{Bool, not, ◌&&◌, ◌||◌}
 use mathlib.Core.List.{List, [], ◌∷◌, ◌++◌}
 use Prim.Native.Nat.{ℕ, ◌+◌, ◌-◌, ◌*◌, ◌/◌, ◌%◌, ◌≤◌, ◌<◌}
 use native.Mathlib.Omega.{arith}
-use lib.Dec.{T, eqb, ltb, eqb→eq, ltb→lt}
-use lib.ListN.{length, get_or}
+use lib.Dec.{T, eqb, ltb, eqb→eq, ltb→lt, lit<}
+use lib.ListN.{get_or}
 use mir.Facts.{and_yes}
 use Rattle.bits.specs.declared.Run.{Run}
 use Rattle.bits.specs.Rows.{bits, number}
@@ -20,11 +21,11 @@ use Rattle.bits.specs.Same.{same}
 use Rattle.bits.specs.Stuffing.{nothing_sent, stuff_after, run_after, stuffed, stuff_count, run_after_row}
 use Rattle.bits.proofs.Everywhere.{everywhere, everywhere-at}
 use Rattle.bits.proofs.Numbers.{numbers-at}
-use Rattle.bits.proofs.Rows.{bits-length}
+use Rattle.bits.proofs.Rows.{bits-next, bits-low}
 use Rattle.bits.proofs.Fours.{fours-next}
 use Rattle.bits.proofs.Same.{same-eq}
 use Rattle.bits.proofs.Stuffing.{run, stuffed-append, stuff_count-append, run_after_row-append}
-use Rattle.frame.specs.Fours.{run_of, sent_of, sent_list, bytes_of, byte_list}
+use Rattle.frame.specs.Fours.{run_of, sent_of, sent_list, byte_list}
 
 pub run-fours : (r : Run) (left n : ℕ) → 0 < left
     → run_after_row r (bits (4 * left) n) ≡ run_after_row (run_after_row r (bits 4 (four_at n (left - 1)))) (bits (4 * (left - 1)) n)
@@ -94,8 +95,29 @@ module _ (last four : ℕ) (h : last < 16) (g : four < 16) where
   pub sent-below : sent_of last four < 64
   sent-below = ltb→lt _ _ (here last four h g).3
 
-  pub sent-length : length (stuffed (run_of last) (bits 4 four)) ≡ 4 + sent_of last four / 32
-  sent-length = ap length (sym sent-row) ∙ bits-length _ _
+-- four bits as they are sent, from the number that the list holds
+module _ (last four s : ℕ) (h : last < 16) (g : four < 16) (e : s ≡ sent_of last four) where
+  row-is : bits (4 + s / 32) s ≡ stuffed (run_of last) (bits 4 four)
+  row-is = ap (λ (n : ℕ). bits (4 + n / 32) n) e ∙ sent-row last four h g
+
+  drawn-is : s / 32 ≡ stuff_count (run_of last) (bits 4 four)
+  drawn-is = ap (λ (n : ℕ). n / 32) e ∙ sent-drawn last four h g
+
+  pub run-left : run_of (s % 16) ≡ run_after_row (run_of last) (bits 4 four)
+  run-left = ap (λ (n : ℕ). run_of (n % 16)) e ∙ sent-run last four h g
+
+  pub four-sent : s < 32 → (bits 4 (s % 16) ≡ stuffed (run_of last) (bits 4 four)) × (0 ≡ stuff_count (run_of last) (bits 4 four))
+  four-sent none =
+      let zero : s / 32 ≡ 0 = omega arith in
+      (bits-low 4 s ∙ ap (λ (k : ℕ). bits (4 + k) s) (sym zero) ∙ row-is, sym zero ∙ drawn-is)
+
+  pub five-sent : 32 ≤ s
+      → ((s / 16 % 2) ∷ bits 4 (s % 16) ≡ stuffed (run_of last) (bits 4 four)) × (1 ≡ stuff_count (run_of last) (bits 4 four))
+  five-sent some =
+      let one : s / 32 ≡ 1 = omega (arith, e, sent-below last four h g) in (
+        ap (λ (l : List ℕ). (s / 16 % 2) ∷ l) (bits-low 4 s) ∙ sym (bits-next 5 s (lit< tt)) ∙ ap (λ (k : ℕ). bits (4 + k) s) (sym one) ∙ row-is,
+        sym one ∙ drawn-is,
+      )
 
 pub sent-list-at : (last four : ℕ) → last < 16 → four < 16 → get_or sent_list (last * 16 + four) 0 ≡ sent_of last four
 unfolding sent_list
@@ -105,24 +127,9 @@ sent-list-at last four h g =
     let low : i % 16 ≡ four = omega arith in
     numbers-at (λ (i : ℕ). sent_of (i / 16) (i % 16)) 0 256 i (omega arith) ∙ ap₂ sent_of high low
 
-pub byte-list-at : (four : ℕ) → four < 16 → get_or byte_list four 0 ≡ bytes_of four
+pub byte-list-at : (four : ℕ) → four < 16 → get_or byte_list four [] ≡ bits 4 four
 unfolding byte_list
-byte-list-at four h = numbers-at bytes_of 0 16 four h
-
--- the bytes of such a number, the lowest first
-abbrev pub bytes_in : ℕ → List ℕ
-bytes_in b = (b % 256) ∷ (b / 256 % 256) ∷ (b / 65536 % 256) ∷ (b / 16777216 % 256) ∷ []
-
-bytes_right : ℕ → Bool
-bytes_right four = same (bytes_in (bytes_of four)) (bits 4 four)
-
-bytes-tested : T (everywhere bytes_right 16)
-unfolding bytes_right bits
-bytes-tested = tt
-
-pub bytes-are : (four : ℕ) → four < 16 → bytes_in (bytes_of four) ≡ bits 4 four
-unfolding bytes_right
-bytes-are four h = same-eq _ _ (everywhere-at bytes_right 16 bytes-tested four h)
+byte-list-at four h = numbers-at (bits 4) [] 16 four h
 
 -- three bits from the start of frame on, of which the first is 0
 start_right : ℕ → Bool

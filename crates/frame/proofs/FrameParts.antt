@@ -20,7 +20,8 @@ use Rattle.crc.proofs.CrcFours.{crc-short}
 use Rattle.wire.specs.Line.{crc_bits, stuffed_row, ending, line_of}
 use Rattle.wire.proofs.LineParts.{data_run, line-length}
 use Rattle.frame.specs.Writing.{tail_row}
-use Rattle.frame.specs.Parts.{bits_of, Starts, header_bits, data_bits, Fit, line_in}
+use Rattle.frame.specs.Header.{bits_of}
+use Rattle.frame.specs.Parts.{header_bits, data_bits, line_in}
 use Rattle.frame.specs.declared.header.Header.{Header}
 use Rattle.frame.specs.declared.parts.Parts.{Parts}
 
@@ -36,35 +37,34 @@ line-parts header_bits data_bits =
     ∙ append_assoc (stuffed nothing_sent before) (stuffed (run_after_row nothing_sent before) check) (ending 1)
 
 -- the bits 0 before a header that is shorter than 39 bits change nothing
-shorter : (h : Header) (l : List ℕ) → Starts h → crc (bits 39 h.number ++ l) ≡ crc (bits_of h ++ l)
-shorter h l starts =
-    let few = starts.few in
+shorter : (h : Header) (l : List ℕ) → crc (bits 39 h.number ++ l) ≡ crc (bits_of h ++ l)
+shorter h l =
     let own : ℕ = 3 + 4 * h.fours in
     let whole : 39 ≡ 36 - 4 * h.fours + own = omega arith in
     let wide = pow_mono {i = 2 + 4 * h.fours} {j = own} (omega arith) in
     ap (λ (k : ℕ). crc (bits k h.number ++ l)) whole
-    ∙ crc-short (36 - 4 * h.fours) own h.number l (omega (arith, wide, starts.first))
+    ∙ crc-short (36 - 4 * h.fours) own h.number l (omega (arith, wide, h.first))
 
-pub crc-of-parts : (p : Parts) (r : ℕ) → Fit p
-    → r ≡ crc (bits 39 p.header.number ++ bits (8 * data_bytes (p.header.number % 16)) p.field)
+pub crc-of-parts : (p : Parts) (r : ℕ)
+    → r ≡ crc (bits 39 p.header.number ++ bits (8 * data_bytes (p.header.number % 16)) p.field.number)
     → (r ≡ crc (header_bits p ++ data_bits p)) × (r < 2 ^ 15)
-crc-of-parts p r fit e =
+crc-of-parts p r e =
     let number = p.header.number in
-    let bytes = ap data_bytes fit.dlc ∙ data-bytes p.n fit.few in (
-      e ∙ ap (λ (n : ℕ). crc (bits 39 number ++ bits (8 * n) p.field)) bytes ∙ shorter p.header (data_bits p) fit.starts,
+    let bytes = ap data_bytes p.dlc ∙ data-bytes p.field.n p.few in (
+      e ∙ ap (λ (n : ℕ). crc (bits 39 number ++ bits (8 * n) p.field.number)) bytes ∙ shorter p.header (data_bits p),
       subst (λ (x : ℕ). x < 2 ^ 15) (sym e) (crc-below _),
     )
 
-pub quiet-length : (p : Parts) → Fit p →
+pub quiet-length : (p : Parts) →
     let x = crc (header_bits p ++ data_bits p) in
     length (line_in p)
-    ≡ 28 + 4 * p.header.fours + 8 * p.n + (stuff_count nothing_sent (header_bits p) + stuff_count (data_run (header_bits p) (data_bits p)) (bits 15 x))
+    ≡ 28 + 4 * p.header.fours + 8 * p.field.n + (stuff_count nothing_sent (header_bits p) + stuff_count (data_run (header_bits p) (data_bits p)) (bits 15 x))
 unfolding crc_bits
-quiet-length p fit =
+quiet-length p =
     omega (
       arith,
       line-length (header_bits p) (data_bits p),
       bits-length (3 + 4 * p.header.fours) p.header.number,
-      bits-length (8 * p.n) p.field,
-      fit.quiet,
+      bits-length (8 * p.field.n) p.field.number,
+      p.quiet,
     )

@@ -2,7 +2,7 @@
 --     quiet-sent       such a row goes out as it is
 --     quiet-field      the run that a field leaves is that of its last four bits
 --     header-first     a header's first three bits start with 0
---     header-run-is, header-counts, header-sent    what a header leaves and how it goes out, told by the bits behind its first three
+--     header-counts, header-sent    what a header leaves and how it goes out, told by the bits behind its first three
 --     check-drawn, check-sent    the bit added to the CRC draws none; what goes out
 use mathlib.Core.Path.{◌≡◌, refl, sym, ap, ap₂, ◌∙◌}
 use mathlib.Core.List.{List, [], ◌∷◌, ◌++◌}
@@ -20,8 +20,9 @@ use Rattle.bits.proofs.Rows.{bits-length, bits_below, bits-split, bits-low, bits
 use Rattle.bits.proofs.Stuffing.{stuffed-append, stuff_count-append, run_after_row-append, stuff-weight, run-bit}
 use Rattle.frame.specs.declared.header.Header.{Header}
 use Rattle.frame.specs.declared.stuffing.Counted.{Counted}
-use Rattle.frame.specs.Parts.{bits_of, Starts}
-use Rattle.frame.specs.Fours.{run_of, Counts, quiet_check}
+use Rattle.frame.specs.Header.{bits_of}
+use Rattle.frame.specs.Fours.{run_of, quiet_check}
+use Rattle.frame.specs.Sent.{Counts}
 use Rattle.frame.proofs.FourBits.{start-row, start-quiet, start-run, quiet-run}
 
 -- a bit that draws none
@@ -57,7 +58,7 @@ quiet-field last n v some none =
     ∙ ap (run_after_row before) (bits-low 4 v) ∙ sym (run_after_row-append (run_of last) front (bits 4 v))
     ∙ ap (run_after_row (run_of last)) (sym parts)
 
-module _ (h : Header) (starts : Starts h) where
+module _ (h : Header) where
   -- its first three bits, and the others
   abbrev three : ℕ
   three = h.number / 2 ^ (4 * h.fours)
@@ -69,7 +70,7 @@ module _ (h : Header) (starts : Starts h) where
   split = bits-split 3 (4 * h.fours) h.number
 
   pub header-first : h.number / 2 ^ (4 * h.fours) < 4
-  header-first = shr_lt 2 (4 * h.fours) starts.first
+  header-first = shr_lt 2 (4 * h.fours) h.first
 
   header-drawn : stuff_count nothing_sent (bits_of h)
       ≡ stuff_count (run_of (8 + h.number / 2 ^ (4 * h.fours))) (bits (4 * h.fours) h.number)
@@ -77,19 +78,18 @@ module _ (h : Header) (starts : Starts h) where
       ap (stuff_count nothing_sent) split ∙ stuff_count-append nothing_sent _ _
       ∙ ap₂ (λ (n : ℕ) (r : Run). n + stuff_count r others) (start-quiet _ header-first) (start-run _ header-first) ∙ zero-add _
 
-  pub header-run-is : run_after_row nothing_sent (bits_of h)
+  header-run-is : run_after_row nothing_sent (bits_of h)
       ≡ run_after_row (run_of (8 + h.number / 2 ^ (4 * h.fours))) (bits (4 * h.fours) h.number)
   header-run-is =
       ap (run_after_row nothing_sent) split ∙ run_after_row-append nothing_sent _ _ ∙ ap (λ (r : Run). run_after_row r others) (start-run _ header-first)
 
-  pub header-counts : (last fours : ℕ) (c : Counted) → last ≡ 8 + h.number / 2 ^ (4 * h.fours) → fours ≡ h.fours
-      → Counts (run_of last) (bits (4 * fours) h.number) c → Counts nothing_sent (bits_of h) c
-  header-counts last fours c first all counts =
+  pub header-counts : (last : ℕ) (c : Counted) → last ≡ 8 + h.number / 2 ^ (4 * h.fours)
+      → Counts (run_of last) (bits (4 * h.fours) h.number) c → Counts nothing_sent (bits_of h) c
+  header-counts last c first counts =
       record {
-        run_is = counts.run_is ∙ ap₂ (λ (x k : ℕ). run_after_row (run_of x) (bits (4 * k) h.number)) first all ∙ sym header-run-is;
-        low = counts.low;
-        drawn-is = counts.drawn-is ∙ ap₂ (λ (x k : ℕ). stuff_count (run_of x) (bits (4 * k) h.number)) first all ∙ sym header-drawn;
-        few = omega (arith, all, counts.few, bits-length (4 * fours) h.number, bits-length (3 + 4 * h.fours) h.number);
+        run_is = counts.run_is ∙ ap (λ (x : ℕ). run_after_row (run_of x) others) first ∙ sym header-run-is;
+        drawn-is = counts.drawn-is ∙ ap (λ (x : ℕ). stuff_count (run_of x) others) first ∙ sym header-drawn;
+        few = omega (arith, counts.few, bits-length (4 * h.fours) h.number, bits-length (3 + 4 * h.fours) h.number);
       }
 
   pub header-sent : stuffed nothing_sent (bits_of h)

@@ -1,10 +1,9 @@
 -- Four bits at a time, as the code sends them; no public contract cites it. Assumes nothing.
-use Rattle.std.specs.Prelude.{◌≡◌, ℕ, ◌+◌, ◌-◌, ◌*◌, ◌/◌, ◌%◌, ◌≤◌, ◌<◌, List, map, length}
+use Rattle.std.specs.Prelude.{ℕ, ◌+◌, ◌-◌, ◌*◌, ◌/◌, ◌%◌, List, map, length}
 use Rattle.bits.specs.Numbers.{numbers_from}
 use Rattle.bits.specs.Rows.{bits, number}
 use Rattle.bits.specs.declared.Run.{Run}
-use Rattle.bits.specs.Stuffing.{nothing_sent, stuffed, stuff_count, run_after_row}
-use Rattle.frame.specs.declared.stuffing.Counted.{Counted}
+use Rattle.bits.specs.Stuffing.{nothing_sent, stuffed, run_after_row}
 
 -- the run that ends four bits; it is that of all that was sent, if these were sent last
 abbrev pub run_of : ℕ → Run
@@ -17,19 +16,9 @@ sent_of last four = let row = stuffed (run_of last) (bits 4 four) in number 0 ro
 unfoldable pub sent_list : List ℕ
 sent_list = map (λ (i : ℕ). sent_of (i / 16) (i % 16)) (numbers_from 0 256)
 
--- four bits as the bytes of a number, the first bit its lowest byte
-abbrev pub bytes_of : ℕ → ℕ
-bytes_of four = four / 8 % 2 + 256 * (four / 4 % 2) + 65536 * (four / 2 % 2) + 16777216 * (four % 2)
-
-unfoldable pub byte_list : List ℕ
-byte_list = map bytes_of (numbers_from 0 16)
-
--- the stuff bits that a row draws behind a run, and four bits that end in the run behind it
-pub record Counts (r : Run) (row : List ℕ) (counted : Counted) : Type 0 where
-  pub run_is : run_of counted.last ≡ run_after_row r row
-  pub low : counted.last < 16
-  pub drawn-is : counted.drawn ≡ stuff_count r row
-  pub few : counted.drawn ≤ length row
+-- four bits as the bytes of a line
+unfoldable pub byte_list : List (List ℕ)
+byte_list = map (bits 4) (numbers_from 0 16)
 
 -- the CRC bits, and behind them one that draws no stuff bit: the last of them negated
 abbrev pub quiet_check : ℕ → ℕ

@@ -1,23 +1,21 @@
 // The length of a frame on the wire. No line is built, and no stuff bit looked for in the data: the last four data bits tell the run
 // behind them.
 ghost use Rattle.std.specs.Prelude.{◌≡◌, ◌+◌, ◌*◌, ◌≤◌, length};
-ghost use Rattle.frame.specs.Parts.{Fit, line_in};
+ghost use Rattle.frame.specs.Parts.{line_in};
 
 use crate::parts::Parts;
-use crate::{sent_list, stuffing};
+use crate::stuffing;
 
 // How many bits the line of a frame has.
 pub(crate) fn of(parts: Parts) -> usize
-    requires { Fit parts }
     ensures { result ≡ length (line_in parts) }
 {
     let head = parts.header;
-    let crc = crc::of_frame(head.number, parts.field);
-    let list = sent_list::list();
-    let header = stuffing::of_header(&list, head);
-    let last = stuffing::behind(header.last, parts.field, parts.n);
-    let check = stuffing::count(&list, last, stuffing::check(crc), 4);
-    total(head.fours, parts.n, header.drawn, check.drawn)
+    let crc = crc::of_frame(head.number, parts.field.number);
+    let header = stuffing::of_header(head);
+    let last = stuffing::behind(header.last, parts.field);
+    let check = stuffing::count(last, stuffing::check(crc), 4);
+    total(head.fours, parts.field.n, header.drawn, check.drawn)
 }
 
 // The header's bits and 25 more beside the data, eight for each of n data bytes, and the stuff bits that follow header and CRC bits.

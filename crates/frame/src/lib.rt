@@ -11,7 +11,6 @@ ghost use Rattle.wire.specs.Answers.{payload_line, make_answer, length_answer, b
 mod byte_list;
 mod form;
 mod fours;
-mod framing;
 mod header;
 mod length;
 mod parts;
@@ -20,52 +19,56 @@ mod stuffing;
 mod writing;
 
 use field::table;
-use framing::Framed;
-use refusals::{Answer, Refusal};
+use header::Header;
+use parts::Parts;
+use refusals::Refusal;
 use wire::{Bounds, Identifier};
 
 // Makes the frame of an identifier and a payload: the length of its line, which stands at the start of `line`, a byte 0 or 1 for each
 // bit. Refused with 8, 1 or 2; room for 116 bits is asked for, or for 141 in the long form, whatever the payload.
-pub fn make_frame(identifier: Identifier, payload: &[u8], line: &mut [u8]) -> Answer
+pub fn make_frame(identifier: Identifier, payload: &[u8], line: &mut [u8]) -> Result<usize, Refusal>
     ensures answer { result ≡ make_answer identifier payload.now (length line.old) }
     ensures memory { line.new ≡ after (answer_numbers result) (payload_line identifier payload.now) line.old }
 {
-    match framing::frame(identifier, payload) {
-        Framed::Frame(parts) => {
-            if line.len() < form::room(identifier) {
-                return Answer::Refused(Refusal::RoomShort);
-            }
-            Answer::Length(writing::whole(parts, line))
-        }
-        Framed::Refused(refusal) => Answer::Refused(refusal),
+    let parts = match Parts::of(identifier, payload) {
+        Ok(parts) => parts,
+        // `?` calls std, whose code `Linked` cannot show.
+        Err(refusal) => return Err(refusal),
+    };
+    if line.len() < form::room(identifier) {
+        return Err(Refusal::RoomShort);
     }
+    Ok(writing::whole(parts, line))
 }
 
 // The length of that line; none is built. Refused with 8 or 1.
-pub fn frame_length(identifier: Identifier, payload: &[u8]) -> Answer
+pub fn frame_length(identifier: Identifier, payload: &[u8]) -> Result<usize, Refusal>
     ensures { result ≡ length_answer identifier payload.now }
 {
-    match framing::frame(identifier, payload) {
-        Framed::Frame(parts) => Answer::Length(length::of(parts)),
-        Framed::Refused(refusal) => Answer::Refused(refusal),
+    match Parts::of(identifier, payload) {
+        Ok(parts) => Ok(length::of(parts)),
+        // `?` calls std, whose code `Linked` cannot show.
+        Err(refusal) => Err(refusal),
     }
 }
 
 // Bounds between which the length of every frame of a size lies; they need not be reached. Refused with 8 or 1.
-pub fn frame_bounds(identifier: Identifier, size: usize) -> Bounds
+pub fn frame_bounds(identifier: Identifier, size: usize) -> Result<Bounds, Refusal>
     ensures { result ≡ bounds_answer identifier size }
 {
     if form::is_refused(identifier) {
-        return Bounds::Refused(Refusal::Identifier);
+        return Err(Refusal::Identifier);
     }
     if 7 < size {
-        return Bounds::Refused(Refusal::PayloadTooLong);
+        return Err(Refusal::PayloadTooLong);
     }
     let row = table::row_of(size);
     let n = row.bytes;
-    let list = sent_list::list();
-    let header = header::of(identifier, n);
-    let head = stuffing::of_header(&list, header);
+    let header = Header::of(identifier, n);
+    let head = stuffing::of_header(header);
     let least = length::total(header.fours, n, head.drawn, 0);
-    Bounds::Between(least, least + 4)
+    Ok(Bounds {
+        least,
+        most: least + 4,
+    })
 }

@@ -1,5 +1,6 @@
 // Four bits as they are sent behind four others: for each four that were sent last, and for each four that come next, the bits that
-// go out, with 32 added where a stuff bit is among them.
+// go out, with 32 added where a stuff bit is among them. A number each, as `sent_list` of specs/ has it; `Sent::behind`
+// takes it apart.
 ghost use Rattle.std.specs.Prelude.{◌≡◌};
 ghost use Rattle.frame.specs.Fours.{sent_list};
 
@@ -262,10 +263,8 @@ const SENT: [u8; 256] = [
     0b110111, // 1111, 1111
 ];
 
-pub(crate) fn list() -> [u8; 256]
-    ensures { result ≡ sent_list }
+pub(crate) fn list() -> &'static [u8; 256]
+    ensures { result.now ≡ sent_list }
 {
-    // Read in place: without the reference the whole list is copied to the stack at each call.
-    let list: &'static [u8; 256] = &SENT;
-    *list
+    &SENT
 }

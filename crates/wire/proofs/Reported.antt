@@ -8,10 +8,10 @@ use mathlib.Core.List.{List}
 use Prim.Native.Nat.{ℕ, ◌+◌, ◌*◌, ◌≤◌}
 use native.Mathlib.Omega.{arith}
 use lib.ListN.{length, take}
+use Rattle.std.proofs.Common.{Result, Ok}
 use Rattle.bits.specs.Below.{Below}
+use Rattle.refusals.specs.declared.Refusal.{Refusal}
 use Rattle.refusals.specs.After.{after}
-use Rattle.refusals.specs.declared.Answer.{Answer}
-use Rattle.refusals.specs.declared.Answer.TheVariants.{Length}
 use Rattle.refusals.specs.Table.{given, answer_numbers}
 use Rattle.refusals.proofs.After.{accepted-result}
 use Rattle.field.specs.Sizes.{field_bytes}
@@ -19,8 +19,7 @@ use Rattle.wire.specs.declared.Identifier.{Identifier}
 use Rattle.wire.specs.Identifier.{Allowed, room_for}
 use Rattle.wire.specs.Header.{header}
 use Rattle.wire.specs.StuffBits.{header_stuff_bits}
-use Rattle.wire.specs.Answers.{payload_line, length_answer, make_answer, bounds_answer}
-use Rattle.wire.specs.declared.Bounds.TheVariants as bounds
+use Rattle.wire.specs.Answers.{payload_line, length_answer, make_answer, bounds_answer, between}
 use Rattle.wire.proofs.Demand3.{frame-between}
 use Rattle.wire.proofs.FrameAnswers.{LengthAnswered, length-given, Made, make-given}
 use Rattle.wire.proofs.BoundsAnswers.{Bounded, bounds-given}
@@ -32,33 +31,33 @@ module _ (identifier : Identifier) (payload : List ℕ) where
     pub short : length payload ≤ 7
     pub length-is : k ≡ length (payload_line identifier payload)
 
-  pub length-accepted : (k : ℕ) → length_answer identifier payload ≡ Length k → OfLine k
+  pub length-accepted : (k : ℕ) → length_answer identifier payload ≡ Ok k → OfLine k
   length-accepted k e =
       let h = subst (LengthAnswered identifier payload) e (length-given identifier payload) in
       record { allowed = h.0; short = h.1; length-is = h.2 }
 
-  pub make-accepted : (room k : ℕ) → make_answer identifier payload room ≡ Length k → OfLine k × (room_for identifier ≤ room)
+  pub make-accepted : (room k : ℕ) → make_answer identifier payload room ≡ Ok k → OfLine k × (room_for identifier ≤ room)
   make-accepted room k e =
       let h = subst (Made identifier payload room) e (make-given identifier payload room) in
       (record { allowed = h.0; short = h.1; length-is = h.3 }, h.2)
 
-  pub length-is-made : (room k m : ℕ) → length_answer identifier payload ≡ Length k → make_answer identifier payload room ≡ Length m → k ≡ m
+  pub length-is-made : (room k m : ℕ) → length_answer identifier payload ≡ Ok k → make_answer identifier payload room ≡ Ok m → k ≡ m
   length-is-made room k m reported made = (length-accepted k reported).length-is ∙ sym (make-accepted room m made).0.length-is
 
-  pub line-is-made : (old : List ℕ) (m : ℕ) → make_answer identifier payload (length old) ≡ Length m
+  pub line-is-made : (old : List ℕ) (m : ℕ) → make_answer identifier payload (length old) ≡ Ok m
       → (m ≡ length (payload_line identifier payload))
       × (take m (after (answer_numbers (make_answer identifier payload (length old))) (payload_line identifier payload) old) ≡ payload_line identifier payload)
   line-is-made old m made =
       let line = payload_line identifier payload in
       let long = (make-accepted (length old) m made).0.length-is in (
         long,
-        ap (λ (a : Answer). take m (after (answer_numbers a) line old)) made
+        ap (λ (a : Result ℕ Refusal). take m (after (answer_numbers a) line old)) made
             ∙ ap (λ (n : ℕ). take n (after (given m 0) line old)) long
             ∙ accepted-result line old m 0,
       )
 
 -- the two bounds, where there is no refusal
-pub bounds-accepted : (identifier : Identifier) (size least most : ℕ) → bounds_answer identifier size ≡ bounds.Between least most →
+pub bounds-accepted : (identifier : Identifier) (size least most : ℕ) → bounds_answer identifier size ≡ between least most →
     let n = field_bytes size in
     let beside = length (header identifier n) + 25 in
     let h = header_stuff_bits identifier n in
@@ -68,7 +67,7 @@ bounds-accepted identifier size least most e =
     (h.2, h.3)
 
 pub bounds-hold : (identifier : Identifier) (payload : List ℕ) (least most k : ℕ) → Below 256 payload
-    → bounds_answer identifier (length payload) ≡ bounds.Between least most → length_answer identifier payload ≡ Length k
+    → bounds_answer identifier (length payload) ≡ between least most → length_answer identifier payload ≡ Ok k
     → (least ≤ k) × (k ≤ most)
 bounds-hold identifier payload least most k bytes bounded reported =
     let line = length-accepted identifier payload k reported in

@@ -8,11 +8,11 @@ use native.Mathlib.Omega.{arith}
 use lib.Dec.{ltb, lit<}
 use lib.ListN.{length}
 use borrow.Author.Tests.{ltb-false}
+use Rattle.std.proofs.Common.{Result, Ok, Err}
 use Rattle.bits.specs.Packing.{unpacked}
 use Rattle.bits.proofs.Packing.{unpacked-length}
+use Rattle.refusals.specs.declared.Refusal.{Refusal}
 use Rattle.refusals.specs.Table.{Numbers, answer_numbers}
-use Rattle.refusals.specs.declared.Answer.{Answer}
-use Rattle.refusals.specs.declared.Answer.TheVariants as answer
 use Rattle.refusals.specs.declared.Refusal.TheVariants as refusal
 use Rattle.field.specs.Sizes.{field_bytes}
 use Rattle.field.specs.Field.{field_of}
@@ -23,15 +23,14 @@ use Rattle.wire.specs.Identifier.{number_in, greatest, room_for}
 use Rattle.wire.specs.Header.{header}
 use Rattle.wire.specs.Line.{frame_line}
 use Rattle.wire.specs.Answers.{payload_line, length_answer, make_answer, bounds_answer, bounds_numbers}
-use Rattle.wire.specs.declared.Bounds.TheVariants as bounds
 use Rattle.wire.proofs.HeaderStuff.{header-nine}
 use Rattle.wire.proofs.HeaderBits.{header-length, header-few}
 use Rattle.wire.proofs.BoundsAnswers.{bounds_of}
 use Rattle.wire.proofs.Demand3.{line-few}
 
 module _ (identifier : Identifier) (payload : List ℕ) where
-  line : Answer
-  line = answer.Length (length (payload_line identifier payload))
+  line : Result ℕ Refusal
+  line = Ok (length (payload_line identifier payload))
 
   fits : length payload ≤ 7 → (answer_numbers line).low < 158
   unfolding line frame_line
@@ -43,8 +42,8 @@ module _ (identifier : Identifier) (payload : List ℕ) where
       let most = line-few (header identifier (length field)) (unpacked 8 field) (omega (arith, head, header-few identifier)) few in
       omega (arith, most)
 
-  checked : (unknown long : Bool) → ltb 7 (length payload) ≡ long → (next : Answer) → (length payload ≤ 7 → (answer_numbers next).low < 158)
-      → (answer_numbers (cond unknown (answer.Refused refusal.Identifier) (cond long (answer.Refused refusal.PayloadTooLong) next))).low < 158
+  checked : (unknown long : Bool) → ltb 7 (length payload) ≡ long → (next : Result ℕ Refusal) → (length payload ≤ 7 → (answer_numbers next).low < 158)
+      → (answer_numbers (cond unknown (Err refusal.Identifier) (cond long (Err refusal.PayloadTooLong) next))).low < 158
   checked true long e next small = lit< tt
   checked false true e next small = lit< tt
   checked false false e next small = small (ltb-false 7 (length payload) e)
@@ -56,10 +55,10 @@ module _ (identifier : Identifier) (payload : List ℕ) where
   pub make-small : (room : ℕ) → (answer_numbers (make_answer identifier payload room)).low < 158
   unfolding make_answer line
   make-small room =
-      checked (ltb (greatest identifier) (number_in identifier)) (ltb 7 (length payload)) refl (cond (ltb room (room_for identifier)) (answer.Refused refusal.RoomShort) line)
+      checked (ltb (greatest identifier) (number_in identifier)) (ltb 7 (length payload)) refl (cond (ltb room (room_for identifier)) (Err refusal.RoomShort) line)
       (roomy (ltb room (room_for identifier)))
     where
-      roomy : (t : Bool) → length payload ≤ 7 → (answer_numbers (cond t (answer.Refused refusal.RoomShort) line)).low < 158
+      roomy : (t : Bool) → length payload ≤ 7 → (answer_numbers (cond t (Err refusal.RoomShort) line)).low < 158
       roomy true short = lit< tt
       roomy false short = fits short
 
@@ -72,7 +71,7 @@ unfolding bounds_answer
 bounds-small identifier size = go (ltb (greatest identifier) (number_in identifier)) (ltb 7 size) refl
   where
     go : (unknown long : Bool) → ltb 7 size ≡ long
-        → Few (bounds_numbers (cond unknown (bounds.Refused refusal.Identifier) (cond long (bounds.Refused refusal.PayloadTooLong) (bounds_of identifier size))))
+        → Few (bounds_numbers (cond unknown (Err refusal.Identifier) (cond long (Err refusal.PayloadTooLong) (bounds_of identifier size))))
     go true long e = (lit< tt, lit< tt)
     go false true e = (lit< tt, lit< tt)
     go false false e =

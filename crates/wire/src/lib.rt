@@ -2,10 +2,8 @@
 // crate frame.
 #![tactic(auto)]
 
-use refusals::Refusal;
-
 // An identifier: the form of the frames that it goes into, and its number. [4.1]
-#[derive(Clone, Copy)]
+#[derive(Clone, Copy, PartialEq, Eq, Debug)]
 pub enum Identifier {
     // Up to 2047, in 11 bits.
     Base(u32),
@@ -13,9 +11,9 @@ pub enum Identifier {
     Long(u32),
 }
 
-// The two bounds of a frame's length, the lower first, or a refusal. [7.4]
-#[derive(Clone, Copy)]
-pub enum Bounds {
-    Between(usize, usize),
-    Refused(Refusal),
+// The two bounds of a frame's length. [7.4]
+#[derive(Clone, Copy, PartialEq, Eq, Debug)]
+pub struct Bounds {
+    pub least: usize,
+    pub most: usize,
 }

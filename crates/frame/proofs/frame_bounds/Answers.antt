@@ -40,11 +40,11 @@ of-header-requires c = (allowed (goal.at.of-header-requires c).Else-is_refused, 
 drawn : (c : After-of_header-head) → c.of_header-head.result.drawn ≤ 39
 drawn c =
     let h = c.of-header in
-    omega (arith, c.of_header-head.ensures.few, bits-length (3 + 4 * h.result.fours) h.result.number, h.ensures.starts.few)
+    omega (arith, c.of_header-head.ensures.few, bits-length (3 + 4 * h.result.fours) h.result.number, h.result.few)
 
 pub total-least-requires : goal.total-least-requires
 total-least-requires c =
-    (c.of-header.ensures.starts.few, few (goal.at.total-least-requires c).After-row_of-row, omega (arith, drawn (goal.at.total-least-requires c).After-of_header-head), omega arith)
+    (omega (arith, c.of-header.result.few), few (goal.at.total-least-requires c).After-row_of-row, omega (arith, drawn (goal.at.total-least-requires c).After-of_header-head), omega arith)
 
 pub overflow_add-result : goal.overflow_add-result
 overflow_add-result c =
@@ -52,7 +52,7 @@ overflow_add-result c =
       arith,
       few (goal.at.overflow_add-result c).After-row_of-row,
       drawn (goal.at.overflow_add-result c).After-of_header-head,
-      c.of-header.ensures.starts.few,
+      c.of-header.result.few,
       c.total-least.ensures,
     )
 

@@ -20,11 +20,7 @@ use Rattle.frame.proofs.length.of.Goals.{After-of_frame-crc}
 checked : (c : After-of_frame-crc) →
     let p = c.args.parts in
     (c.of_frame-crc.result ≡ crc (header_bits p ++ data_bits p)) × (c.of_frame-crc.result < 2 ^ 15)
-checked c = crc-of-parts c.args.parts _ c.requires c.of_frame-crc.ensures
-
-pub behind-last-requires : goal.behind-last-requires
-behind-last-requires c =
-    (c.of_header-header.ensures.low, ap (λ (r : Run). stuff_count r (data_bits c.args.parts)) c.of_header-header.ensures.run_is ∙ c.requires.quiet)
+checked c = crc-of-parts c.args.parts _ c.of_frame-crc.ensures
 
 pub check-requires : goal.check-requires
 check-requires c = (checked (goal.at.check-requires c).After-of_frame-crc).1
@@ -33,9 +29,9 @@ pub total-requires : goal.total-requires
 total-requires c =
     let first = c.of_header-header.ensures.few in
     let h = c.args.parts.header in (
-      c.requires.starts.few,
-      c.requires.few,
-      omega (arith, first, bits-length (3 + 4 * h.fours) h.number, c.requires.starts.few),
+      h.few,
+      c.args.parts.few,
+      omega (arith, first, bits-length (3 + 4 * h.fours) h.number, h.few),
       omega (arith, c.count-check.ensures.few, bits-length 16 c.check.result),
     )
 
@@ -43,11 +39,11 @@ pub returns : goal.returns
 returns c =
     let p = c.args.parts in
     let x = crc (header_bits p ++ data_bits p) in
-    let behind : run_of c.behind-last.result ≡ data_run (header_bits p) (data_bits p) =
-    c.behind-last.ensures.0 ∙ ap (λ (r : Run). run_after_row r (data_bits p)) c.of_header-header.ensures.run_is in
+    let behind : run_of c.behind-last.result.bits ≡ data_run (header_bits p) (data_bits p) =
+    c.behind-last.ensures ∙ ap (λ (r : Run). run_after_row r (data_bits p)) c.of_header-header.ensures.run_is in
     let sent : c.check.result ≡ quiet_check x =
     c.check.ensures ∙ ap quiet_check (checked (goal.at.returns c).After-of_frame-crc).0 in
     let check : c.count-check.result.drawn ≡ stuff_count (data_run (header_bits p) (data_bits p)) (bits 15 x) =
     c.count-check.ensures.drawn-is
     ∙ ap₂ (λ (r : Run) (n : ℕ). stuff_count r (bits 16 n)) behind sent ∙ check-drawn (data_run (header_bits p) (data_bits p)) x in
-    c.total.ensures ∙ rw (c.of_header-header.ensures.drawn-is, check) (sym (quiet-length p c.requires))
+    c.total.ensures ∙ rw (c.of_header-header.ensures.drawn-is, check) (sym (quiet-length p))

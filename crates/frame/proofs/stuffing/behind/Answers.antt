@@ -1,7 +1,7 @@
 -- `frame::stuffing::behind` meets its contract: a field that draws no stuff bit leaves the run of its last four bits.
 -- Assumes nothing.
-use mathlib.Core.Path.{sym, ap}
-use Prim.Native.Nat.{ℕ, ◌*◌}
+use mathlib.Core.Path.{◌≡◌, refl, ap, ◌∙◌}
+use Prim.Native.Nat.{◌%◌}
 use native.Mathlib.Omega.{arith}
 use Rattle.bits.specs.Rows.{bits}
 use Rattle.bits.specs.Stuffing.{run_after_row}
@@ -9,13 +9,12 @@ use Rattle.frame.specs.Fours.{run_of}
 use Rattle.frame.proofs.Quiet.{quiet-field}
 use Rattle.frame.proofs.stuffing.behind.Goals as goal
 
-pub returns-then-n-eq0 : goal.returns-then-n-eq0
+pub returns-then-field-eq0 : goal.returns-then-field-eq0
 unfolding bits run_after_row
-returns-then-n-eq0 c =
-    let args = c.args in
-    (sym (ap (λ (n : ℕ). run_after_row (run_of args.last) (bits (8 * n) args.field)) c.if-n-eq0.true), omega arith)
+returns-then-field-eq0 c = rw c.if-field-eq0.true refl
 
-pub returns-else-n-eq0 : goal.returns-else-n-eq0
-returns-else-n-eq0 c =
+pub returns-else-field-eq0 : goal.returns-else-field-eq0
+returns-else-field-eq0 c =
     let args = c.args in
-    (quiet-field args.last args.n args.field (omega arith) c.requires.1, omega arith)
+    let low : c.at.result.bits ≡ args.field.number % 16 = omega arith in
+    ap run_of low ∙ quiet-field args.last.bits args.field.n args.field.number (omega arith) c.requires
