@@ -12,9 +12,9 @@ use Rattle.wire.specs.declared.Identifier.{Identifier}
 use Rattle.wire.specs.declared.Identifier.TheVariants.{Base, Long}
 use Rattle.wire.specs.Identifier.{Allowed}
 use Rattle.wire.specs.Answers.{payload_line}
-use Rattle.line.specs.Read.{own, read_answer, payload_in}
+use Rattle.line.specs.Read.{own, read_answer, payload_in, framed}
 use Rattle.line.specs.Ack.{with_ack}
-use Rattle.line.specs.declared.Line.TheVariants.{Frame}
+use Rattle.line.proofs.ReadAnswers.{framed-only}
 use Rattle.line.proofs.RoundTrip.{slot_apart, slot-holds, read_made}
 
 pub line-tells : (i j : Identifier) (p q : List ℕ) (a b : ℕ) → Allowed i → Allowed j
@@ -25,8 +25,8 @@ line-tells i j p q a b known known' bytes bytes' short short' e =
     let line = ap (with_ack 1) made in
     let first = read_made own i p 1 7 known bytes short short (omega arith) in
     let second = read_made own j q 1 7 known' bytes' short' short' (omega arith) in
-    let same : Frame (length p) i ≡ Frame (length q) j = sym first.0 ∙ ap (λ (l : List ℕ). read_answer own l 7) line ∙ second.0 in (
-      cc,
+    let same : framed (length p) i ≡ framed (length q) j = sym first.0 ∙ ap (λ (l : List ℕ). read_answer own l 7) line ∙ second.0 in (
+      (framed-only _ _ _ _ same).1,
       sym first.1 ∙ ap (payload_in own) line ∙ second.1,
       sym (slot-holds i (field_of p) a) ∙ ap (λ (l : List ℕ). get_or l (length l - 9) 0) e ∙ slot-holds j (field_of q) b,
     )

@@ -7,8 +7,7 @@
 use mathlib.Core.Path.{◌≡◌, refl, sym, ap, ap₂}
 use mathlib.Core.List.{List}
 use Prim.Native.Nat.{ℕ, ◌^◌, ◌<◌}
-use Rattle.refusals.specs.declared.Answer.{Answer}
-use Rattle.refusals.specs.declared.Answer.TheVariants as answer
+use Rattle.std.proofs.Common.{Result, Ok, Err}
 use Rattle.refusals.specs.declared.Refusal.{Refusal}
 use Rattle.refusals.specs.After.{after}
 use Rattle.refusals.specs.Table.{Numbers, answer_numbers}
@@ -19,12 +18,18 @@ use Rattle.wire.specs.Identifier.{number_in}
 use Rattle.wire.proofs.Identifiers.{for-c-only}
 use Rattle.reading.specs.Scan.{identifier_in, Scanned, whole, stopped, scanned}
 use Rattle.reading.specs.declared.Reading.{Reading}
-use Rattle.line.specs.Read.{field_in, with_identifier, decoded, read_answer, carried, payload_in, line_numbers}
-use Rattle.line.specs.declared.Line.{Line}
-use Rattle.line.specs.declared.Line.TheVariants.{Frame, Refused}
+use Rattle.line.specs.Read.{field_in, with_identifier, decoded, read_answer, carried, payload_in, line_numbers, framed}
+use Rattle.line.specs.declared.Frame.{Frame}
+
+pub framed-only : (n m : ℕ) (i j : Identifier) → framed n i ≡ framed m j → (n ≡ m) × (i ≡ j)
+framed-only n m i j e =
+    let f : Frame = record { length = n; identifier = i } in
+    let g : Frame = record { length = m; identifier = j } in
+    let same : f ≡ g = cc in
+    (ap (λ (x : Frame). x.length) same, ap (λ (x : Frame). x.identifier) same)
 
 pub read-stopped : (reading : Reading) (line : List ℕ) (room met : ℕ) (refusal : Refusal) → scanned reading line ≡ stopped met refusal
-    → read_answer reading line room ≡ Refused refusal
+    → read_answer reading line room ≡ Err refusal
 unfolding read_answer
 read-stopped reading line room met refusal e = ap (λ (s : Scanned). decoded s room) e
 
@@ -37,20 +42,20 @@ pub payload-whole : (reading : Reading) (line frame : List ℕ) → scanned read
 unfolding payload_in
 payload-whole reading line frame e = ap carried e
 
-pub buffer-alone : (identifier : Identifier) (a : Answer) (result old : List ℕ)
+pub buffer-alone : (identifier : Identifier) (a : Result ℕ Refusal) (result old : List ℕ)
     → after (line_numbers (with_identifier identifier a)) result old ≡ after (answer_numbers a) result old
-buffer-alone identifier (answer.Length n) result old = refl
-buffer-alone identifier (answer.Refused refusal) result old = refl
+buffer-alone identifier (Ok n) result old = refl
+buffer-alone identifier (Err refusal) result old = refl
 
 -- the number of its identifier, if it has one, leaves bit 31 alone; that of every allowed one does
-abbrev pub Bit31Free : Line → Type 0
-Bit31Free (Frame n identifier) = number_in identifier < 2 ^ 31
-Bit31Free (Refused refusal) = Unit {0}
+abbrev pub Bit31Free : Result Frame Refusal → Type 0
+Bit31Free (Ok f) = number_in f.identifier < 2 ^ 31
+Bit31Free (Err refusal) = Unit {0}
 
-pub line-only : (a b : Line) → Bit31Free a → Bit31Free b → line_numbers a ≡ line_numbers b → a ≡ b
-line-only (Frame m i) (Frame n j) h g e =
-    ap₂ Frame (ap (λ (x : Numbers). x.low) e) (for-c-only i j h g (ap (λ (x : Numbers). x.high) e))
-line-only (Frame m i) (Refused r) h g e = absurd (number-some r (ap (λ (x : Numbers). x.refusal) e))
-line-only (Refused r) (Frame n j) h g e = absurd (number-some r (sym (ap (λ (x : Numbers). x.refusal) e)))
-line-only (Refused r) (Refused q) h g e =
-    ap Refused (refusal-only r q (ap (λ (x : Numbers). x.refusal) e) (ap (λ (x : Numbers). x.low) e))
+pub line-only : (a b : Result Frame Refusal) → Bit31Free a → Bit31Free b → line_numbers a ≡ line_numbers b → a ≡ b
+line-only (Ok f) (Ok g) p q e =
+    ap₂ framed (ap (λ (x : Numbers). x.low) e) (for-c-only f.identifier g.identifier p q (ap (λ (x : Numbers). x.high) e))
+line-only (Ok f) (Err r) p q e = absurd (number-some r (ap (λ (x : Numbers). x.refusal) e))
+line-only (Err r) (Ok g) p q e = absurd (number-some r (sym (ap (λ (x : Numbers). x.refusal) e)))
+line-only (Err r) (Err o) p q e =
+    ap Err (refusal-only r o (ap (λ (x : Numbers). x.refusal) e) (ap (λ (x : Numbers). x.low) e))

@@ -13,9 +13,8 @@ use mathlib.Core.Logic.{◌≢◌, ◌⊎◌, inl, inr}
 use Prim.Native.Nat.{ℕ, ◌≤◌, ◌<◌}
 use native.Mathlib.Omega.{arith}
 use lib.ListN.{length, take}
+use Rattle.std.proofs.Common.{Result, Ok, Err}
 use Rattle.bits.specs.Below.{Below}
-use Rattle.refusals.specs.declared.Answer.{Answer}
-use Rattle.refusals.specs.declared.Answer.TheVariants as answer
 use Rattle.refusals.specs.declared.Refusal.{Refusal}
 use Rattle.refusals.specs.declared.Refusal.TheVariants.{LineLength}
 use Rattle.refusals.specs.Among.{Among}
@@ -33,17 +32,16 @@ use Rattle.reading.proofs.FirstProblem.{stopped-at}
 use Rattle.reading.proofs.Stands.{bit_numbers, OfBits}
 use Rattle.reading.proofs.OtherLength.{cut_short, made-longer}
 use Rattle.line.specs.Ack.{with_ack}
-use Rattle.line.specs.Read.{field_in, with_identifier, decoded, read_answer}
-use Rattle.line.specs.declared.Line.TheVariants.{Frame, Refused}
+use Rattle.line.specs.Read.{field_in, with_identifier, decoded, read_answer, framed}
 use Rattle.line.proofs.ReadAnswers.{read-stopped}
 use Rattle.line.proofs.FrameOf.{field-bytes, bytes_below}
 use Rattle.line.proofs.HeaderOf.{identifier-few}
 use Rattle.line.proofs.RoundTrip.{read-frame, line-scanned}
 
 -- where the bits are right, what decoding refuses with
-from_field : (identifier : Identifier) (a : Answer) (refusal : Refusal) → with_identifier identifier a ≡ Refused refusal → a ≡ answer.Refused refusal
-from_field identifier (answer.Length n) refusal e = let z : ◌≡◌ {A = ℕ} 0 1 = cc in absurd (omega arith)
-from_field identifier (answer.Refused r) refusal e = cc
+from_field : (identifier : Identifier) (a : Result ℕ Refusal) (refusal : Refusal) → with_identifier identifier a ≡ Err refusal → a ≡ Err refusal
+from_field identifier (Ok n) refusal e = let z : ◌≡◌ {A = ℕ} 0 1 = cc in absurd (omega arith)
+from_field identifier (Err r) refusal e = cc
 
 -- 2, and 4 to 7
 abbrev pub field_numbers : List ℕ
@@ -60,9 +58,9 @@ module _ (reading : Reading) where
   abbrev pub FieldRefused : List ℕ → ℕ → Refusal → Type 0
   FieldRefused line room refusal =
       (identifier : Identifier) × (field : List ℕ) × (ack : ℕ) × Allowed identifier × Below 256 field
-      × (length field ≢ 1) × (length field ≤ 8) × (ack ≤ slot_most reading.slot) × (line ≡ with_ack ack (frame_line identifier field)) × (decode_answer field room ≡ answer.Refused refusal)
+      × (length field ≢ 1) × (length field ≤ 8) × (ack ≤ slot_most reading.slot) × (line ≡ with_ack ack (frame_line identifier field)) × (decode_answer field room ≡ Err refusal)
 
-  pub refused-field : (line : List ℕ) (room : ℕ) (refusal : Refusal) → FieldRefused line room refusal → read_answer reading line room ≡ Refused refusal
+  pub refused-field : (line : List ℕ) (room : ℕ) (refusal : Refusal) → FieldRefused line room refusal → read_answer reading line room ≡ Err refusal
   refused-field line room refusal (identifier, field, ack, known, bytes, not-one, few, slot, is, refused) =
       ap (λ (l : List ℕ). read_answer reading l room) is ∙ read-frame reading identifier field ack room known bytes few not-one slot
       ∙ ap (with_identifier identifier) refused
@@ -74,11 +72,11 @@ module _ (reading : Reading) where
       let bytes = field-bytes right in
       record { not-one = λ one. right.not-one (sym bytes ∙ one); at_most = omega (arith, bytes, right.at_most) }
 
-  module _ (line : List ℕ) (room : ℕ) (refusal : Refusal) (e : read_answer reading line room ≡ Refused refusal) where
-    decoding : (frame : List ℕ) → decoded (whole frame) room ≡ Refused refusal → decode_answer (field_in frame) room ≡ answer.Refused refusal
+  module _ (line : List ℕ) (room : ℕ) (refusal : Refusal) (e : read_answer reading line room ≡ Err refusal) where
+    decoding : (frame : List ℕ) → decoded (whole frame) room ≡ Err refusal → decode_answer (field_in frame) room ≡ Err refusal
     decoding frame q = from_field (identifier_in frame) (decode_answer (field_in frame) room) refusal q
 
-    numbers : (frame : List ℕ) → scanned reading line ≡ whole frame → decoded (whole frame) room ≡ Refused refusal
+    numbers : (frame : List ℕ) → scanned reading line ≡ whole frame → decoded (whole frame) room ≡ Err refusal
         → Among field_numbers (number_of refusal)
     numbers frame d q = decode-numbers (field_in frame) room (allowed line frame d) refusal (decoding frame q)
 
@@ -86,7 +84,7 @@ module _ (reading : Reading) where
     unfolding read_answer
     read-numbers = go (scanned reading line) refl e
       where
-        go : (s : Scanned) → scanned reading line ≡ s → decoded s room ≡ Refused refusal → OfBits refusal ⊎ Among field_numbers (number_of refusal)
+        go : (s : Scanned) → scanned reading line ≡ s → decoded s room ≡ Err refusal → OfBits refusal ⊎ Among field_numbers (number_of refusal)
         go (stopped met r) d q = let same : r ≡ refusal = cc in inl (subst OfBits same (stopped-at reading line met r d).stands.own)
         go (whole frame) d q = inr (numbers frame d q)
 
@@ -94,7 +92,7 @@ module _ (reading : Reading) where
     unfolding read_answer
     bits-refused own = go (scanned reading line) refl e
       where
-        go : (s : Scanned) → scanned reading line ≡ s → decoded s room ≡ Refused refusal → (met : ℕ) × (s ≡ stopped met refusal)
+        go : (s : Scanned) → scanned reading line ≡ s → decoded s room ≡ Err refusal → (met : ℕ) × (s ≡ stopped met refusal)
         go (stopped met r) d q = (met, cc)
         go (whole frame) d q = absurd (one-kind refusal own (numbers frame d q))
 
@@ -107,7 +105,7 @@ module _ (reading : Reading) where
     unfolding read_answer
     field-refused other = go (scanned reading line) refl e
       where
-        go : (s : Scanned) → scanned reading line ≡ s → decoded s room ≡ Refused refusal → FieldRefused line room refusal
+        go : (s : Scanned) → scanned reading line ≡ s → decoded s room ≡ Err refusal → FieldRefused line room refusal
         go (stopped met r) d q =
             let same : r ≡ refusal = cc in
             absurd (other (subst OfBits same (stopped-at reading line met r d).stands.own))
@@ -128,23 +126,23 @@ module _ (reading : Reading) where
 
   -- ---- an accepted line
 
-  accepted-whole : (line : List ℕ) (room : ℕ) (identifier : Identifier) (n : ℕ) → read_answer reading line room ≡ Frame n identifier
+  accepted-whole : (line : List ℕ) (room : ℕ) (identifier : Identifier) (n : ℕ) → read_answer reading line room ≡ framed n identifier
       → (frame : List ℕ) × (scanned reading line ≡ whole frame)
   unfolding read_answer
   accepted-whole line room identifier n e = go (scanned reading line) refl e
     where
-      go : (s : Scanned) → scanned reading line ≡ s → decoded s room ≡ Frame n identifier → (frame : List ℕ) × (scanned reading line ≡ whole frame)
+      go : (s : Scanned) → scanned reading line ≡ s → decoded s room ≡ framed n identifier → (frame : List ℕ) × (scanned reading line ≡ whole frame)
       go (stopped met r) d q = let z : ◌≡◌ {A = ℕ} 0 1 = cc in absurd (omega arith)
       go (whole frame) d q = (frame, d)
 
-  pub cut_line : (line : List ℕ) (room room' : ℕ) (identifier : Identifier) (n k : ℕ) → read_answer reading line room ≡ Frame n identifier → k < length line
-      → read_answer reading (take k line) room' ≡ Refused (LineLength k)
+  pub cut_line : (line : List ℕ) (room room' : ℕ) (identifier : Identifier) (n k : ℕ) → read_answer reading line room ≡ framed n identifier → k < length line
+      → read_answer reading (take k line) room' ≡ Err (LineLength k)
   cut_line line room room' identifier n k e h =
       let read = accepted-whole line room identifier n e in
       read-stopped reading (take k line) room' k (LineLength k) (cut_short reading line read.0 k read.1 h)
 
-  pub longer-line : (line : List ℕ) (room room' : ℕ) (identifier : Identifier) (n bit : ℕ) (more : List ℕ) → read_answer reading line room ≡ Frame n identifier
-      → read_answer reading (line ++ (bit ∷ more)) room' ≡ Refused (LineLength (length line))
+  pub longer-line : (line : List ℕ) (room room' : ℕ) (identifier : Identifier) (n bit : ℕ) (more : List ℕ) → read_answer reading line room ≡ framed n identifier
+      → read_answer reading (line ++ (bit ∷ more)) room' ≡ Err (LineLength (length line))
   longer-line line room room' identifier n bit more e =
       let read = accepted-whole line room identifier n e in
       read-stopped reading (line ++ (bit ∷ more)) room' (length line) (LineLength (length line)) (made-longer reading line read.0 bit more read.1)

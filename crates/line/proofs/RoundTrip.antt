@@ -16,10 +16,10 @@ use Prim.Native.Nat.{ℕ, ◌-◌, ◌≤◌}
 use native.Mathlib.Omega.{arith}
 use lib.Dec.{lit<}
 use lib.ListN.{length, get_or}
+use Rattle.std.proofs.Common.{Result, Ok, Err}
 use Rattle.bits.specs.Below.{Below}
 use Rattle.bits.specs.Stuffing.{nothing_sent}
-use Rattle.refusals.specs.declared.Answer.{Answer}
-use Rattle.refusals.specs.declared.Answer.TheVariants as answer
+use Rattle.refusals.specs.declared.Refusal.{Refusal}
 use Rattle.field.specs.Field.{field_of}
 use Rattle.field.proofs.Sizes.{field_bytes-few, field_bytes-not-one}
 use Rattle.field.proofs.FieldBits.{field-length, field_below}
@@ -35,9 +35,9 @@ use Rattle.reading.specs.declared.Reading.{Reading}
 use Rattle.reading.proofs.OnLine.{line_from, sound-whole, whole-sound}
 use Rattle.reading.proofs.Right.{Right, right-sound}
 use Rattle.reading.proofs.SoundRight.{sound-right}
-use Rattle.line.specs.Read.{field_in, with_identifier, decoded, read_answer, payload_in}
+use Rattle.line.specs.Read.{field_in, with_identifier, decoded, read_answer, payload_in, framed}
+use Rattle.line.proofs.ReadAnswers.{framed-only}
 use Rattle.line.specs.Ack.{with_ack}
-use Rattle.line.specs.declared.Line.TheVariants.{Frame}
 use Rattle.line.proofs.AckSlot.{line-own, ack-again, ack-holds}
 use Rattle.line.proofs.LineOf.{line-of}
 use Rattle.line.proofs.FrameBits.{header_bits, data_bits, frame_bits, frame-start, frame_right, identifier-back, field_back}
@@ -90,7 +90,7 @@ module _ (reading : Reading) where
   pub read_made : (identifier : Identifier) (payload : List ℕ) (ack room : ℕ)
       → Allowed identifier → Below 256 payload → length payload ≤ 7 → length payload ≤ room → ack ≤ slot_most reading.slot →
       let line = with_ack ack (payload_line identifier payload) in
-      (read_answer reading line room ≡ Frame (length payload) identifier) × (payload_in reading line ≡ payload)
+      (read_answer reading line room ≡ framed (length payload) identifier) × (payload_in reading line ≡ payload)
   unfolding payload_in
   read_made identifier payload ack room known bytes short fits h =
       let field = field_of payload in
@@ -105,7 +105,7 @@ module _ (reading : Reading) where
 
   pub coded-is-accepted : (line : List ℕ) (room : ℕ) (identifier : Identifier) (payload : List ℕ) (ack : ℕ) → line ≡ with_ack ack (payload_line identifier payload)
       → ack ≤ slot_most reading.slot → Allowed identifier → Below 256 payload → length payload ≤ 7 → length payload ≤ room
-      → read_answer reading line room ≡ Frame (length payload) identifier
+      → read_answer reading line room ≡ framed (length payload) identifier
   coded-is-accepted line room identifier payload ack is h known bytes short fits =
       ap (λ (l : List ℕ). read_answer reading l room) is ∙ (read_made identifier payload ack room known bytes short fits h).0
 
@@ -142,7 +142,7 @@ module _ (reading : Reading) where
       )
 
   whole-coded : (line frame : List ℕ) (room : ℕ) (identifier : Identifier) (n : ℕ) → scanned reading line ≡ whole frame
-      → identifier_in frame ≡ identifier → decode_answer (field_in frame) room ≡ answer.Length n → Coded line room identifier n
+      → identifier_in frame ≡ identifier → decode_answer (field_in frame) room ≡ Ok n → Coded line room identifier n
   unfolding payload_in
   whole-coded line frame room identifier n e is d =
       let scan = line-scanned line frame e in
@@ -160,16 +160,16 @@ module _ (reading : Reading) where
         line-below = scan.2;
       }
 
-  with-identifier : (i identifier : Identifier) (n : ℕ) (a : Answer) → with_identifier i a ≡ Frame n identifier
-      → (i ≡ identifier) × (a ≡ answer.Length n)
-  with-identifier i identifier n (answer.Length m) e = (cc, cc)
-  with-identifier i identifier n (answer.Refused refusal) e = let z : ◌≡◌ {A = ℕ} 0 1 = cc in absurd (omega arith)
+  with-identifier : (i identifier : Identifier) (n : ℕ) (a : Result ℕ Refusal) → with_identifier i a ≡ framed n identifier
+      → (i ≡ identifier) × (a ≡ Ok n)
+  with-identifier i identifier n (Ok m) e = let same = framed-only m n i identifier e in (same.1, ap Ok same.0)
+  with-identifier i identifier n (Err refusal) e = let z : ◌≡◌ {A = ℕ} 0 1 = cc in absurd (omega arith)
 
-  pub accepted-is-coded : (line : List ℕ) (room : ℕ) (identifier : Identifier) (n : ℕ) → read_answer reading line room ≡ Frame n identifier → Coded line room identifier n
+  pub accepted-is-coded : (line : List ℕ) (room : ℕ) (identifier : Identifier) (n : ℕ) → read_answer reading line room ≡ framed n identifier → Coded line room identifier n
   unfolding read_answer
   accepted-is-coded line room identifier n e = go (scanned reading line) refl e
     where
-      go : (s : Scanned) → scanned reading line ≡ s → decoded s room ≡ Frame n identifier → Coded line room identifier n
+      go : (s : Scanned) → scanned reading line ≡ s → decoded s room ≡ framed n identifier → Coded line room identifier n
       go (stopped met refusal) p q = let z : ◌≡◌ {A = ℕ} 0 1 = cc in absurd (omega arith)
       go (whole frame) p q =
           let is = with-identifier (identifier_in frame) identifier n (decode_answer (field_in frame) room) q in
@@ -182,7 +182,7 @@ coded-apart reading line room identifier n coded =
     ap (with_ack 1) coded.line-is ∙ slot_apart identifier (field_of (payload_in reading line)) coded.ack
 
 pub one_line : (reading other : Reading) (line line' : List ℕ) (room room' : ℕ) (identifier : Identifier) (n n' : ℕ)
-    → read_answer reading line room ≡ Frame n identifier → read_answer other line' room' ≡ Frame n' identifier
+    → read_answer reading line room ≡ framed n identifier → read_answer other line' room' ≡ framed n' identifier
     → payload_in reading line ≡ payload_in other line' → with_ack 1 line ≡ with_ack 1 line'
 one_line reading other line line' room room' identifier n n' e e' same =
     coded-apart reading line room identifier n (accepted-is-coded reading line room identifier n e) ∙ ap (payload_line identifier) same

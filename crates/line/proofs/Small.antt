@@ -11,10 +11,9 @@ use native.Mathlib.Omega.{arith}
 use lib.Dec.{eqb, ltb}
 use lib.ListN.{length, length-append}
 use borrow.Author.Tests.{eqb-true, eqb-false, ltb-true, ltb-false, ne_eqb}
+use Rattle.std.proofs.Common.{Result, Ok, Err}
 use Rattle.bits.specs.declared.Run.{Run}
 use Rattle.bits.specs.Stuffing.{nothing_sent}
-use Rattle.refusals.specs.declared.Answer.{Answer}
-use Rattle.refusals.specs.declared.Answer.TheVariants as answer
 use Rattle.refusals.specs.declared.Refusal.{Refusal}
 use Rattle.refusals.specs.declared.Refusal.TheVariants.{LineLength}
 use Rattle.refusals.specs.Table.{place_of, answer_numbers}
@@ -31,8 +30,7 @@ use Rattle.reading.proofs.Sound.{Next, bit-right, stuff-right}
 use Rattle.reading.proofs.FirstProblem.{never, stopped-only}
 use Rattle.reading.proofs.Stands.{At, verdict-at}
 use Rattle.line.specs.Read.{field_in, with_identifier, decoded, read_answer, line_numbers}
-use Rattle.line.specs.declared.Line.{Line}
-use Rattle.line.specs.declared.Line.TheVariants.{Frame, Refused}
+use Rattle.line.specs.declared.Frame.{Frame}
 use Rattle.line.proofs.ReadAnswers.{Bit31Free}
 use Rattle.line.proofs.RoundTrip.{accepted-is-coded}
 
@@ -132,18 +130,18 @@ stop-few reading run frame place (bit ∷ line) met refusal few close e =
     go (wrong r) d at q later = omega (arith, ap place_of (stopped-only q).1, at.not_behind, few-most frame few, close.near)
 
 -- out of the data field
-field-few : (identifier : Identifier) (a : Answer) (refusal : Refusal) → (answer_numbers a).low < 8 → with_identifier identifier a ≡ Refused refusal
+field-few : (identifier : Identifier) (a : Result ℕ Refusal) (refusal : Refusal) → (answer_numbers a).low < 8 → with_identifier identifier a ≡ Err refusal
     → place_of refusal ≤ 256
-field-few identifier (answer.Length n) refusal small e = let z : ◌≡◌ {A = ℕ} 0 1 = cc in absurd (omega arith)
-field-few identifier (answer.Refused r) refusal small e =
+field-few identifier (Ok n) refusal small e = let z : ◌≡◌ {A = ℕ} 0 1 = cc in absurd (omega arith)
+field-few identifier (Err r) refusal small e =
     let same : r ≡ refusal = cc in
     omega (arith, ap place_of same, small)
 
-place-few : (reading : Reading) (line : List ℕ) (room : ℕ) (refusal : Refusal) → read_answer reading line room ≡ Refused refusal → place_of refusal ≤ 256
+place-few : (reading : Reading) (line : List ℕ) (room : ℕ) (refusal : Refusal) → read_answer reading line room ≡ Err refusal → place_of refusal ≤ 256
 unfolding read_answer scanned
 place-few reading line room refusal e = go (scanned reading line) refl e
   where
-    go : (s : Scanned) → scanned reading line ≡ s → decoded s room ≡ Refused refusal → place_of refusal ≤ 256
+    go : (s : Scanned) → scanned reading line ≡ s → decoded s room ≡ Err refusal → place_of refusal ≤ 256
     go (stopped met r) d q =
         let same : r ≡ refusal = cc in
         let start : Near nothing_sent [] 0 = record { near = omega arith; nearer = λ h. absurd (omega arith) } in
@@ -155,15 +153,15 @@ pub read_small : (reading : Reading) (line : List ℕ) (room : ℕ) →
     (numbers.low < 257) × (numbers.high < 2 ^ 32)
 read_small reading line room = go (read_answer reading line room) refl
   where
-    go : (l : Line) → read_answer reading line room ≡ l → ((line_numbers l).low < 257) × ((line_numbers l).high < 2 ^ 32)
-    go (Frame n identifier) e =
-        let coded = accepted-is-coded reading line room identifier n e in
-        (omega (arith, coded.short), for-c-small identifier coded.known)
-    go (Refused refusal) e = (omega (arith, place-few reading line room refusal e), omega (arith, high-none refusal))
+    go : (l : Result Frame Refusal) → read_answer reading line room ≡ l → ((line_numbers l).low < 257) × ((line_numbers l).high < 2 ^ 32)
+    go (Ok f) e =
+        let coded = accepted-is-coded reading line room f.identifier f.length e in
+        (omega (arith, coded.short), for-c-small f.identifier coded.known)
+    go (Err refusal) e = (omega (arith, place-few reading line room refusal e), omega (arith, high-none refusal))
 
 pub read-free : (reading : Reading) (line : List ℕ) (room : ℕ) → Bit31Free (read_answer reading line room)
 read-free reading line room = go (read_answer reading line room) refl
   where
-    go : (l : Line) → read_answer reading line room ≡ l → Bit31Free l
-    go (Frame n identifier) e = allowed-small identifier (accepted-is-coded reading line room identifier n e).known
-    go (Refused refusal) e = tt
+    go : (l : Result Frame Refusal) → read_answer reading line room ≡ l → Bit31Free l
+    go (Ok f) e = allowed-small f.identifier (accepted-is-coded reading line room f.identifier f.length e).known
+    go (Err refusal) e = tt

@@ -13,6 +13,7 @@ use native.Mathlib.Omega.{arith}
 use lib.Dec.{eqb, ltb}
 use lib.ListN.{length, get_or, take}
 use borrow.Author.Tests.{ltb-false}
+use Rattle.std.proofs.Common.{Err}
 use Rattle.bits.specs.declared.Run.{Run}
 use Rattle.bits.specs.Stuffing.{nothing_sent}
 use Rattle.refusals.specs.declared.Refusal.TheVariants.{FieldLength, LineByte, StuffBit, LineLength, Crc, FixedBit, NotAcknowledged}
@@ -24,7 +25,6 @@ use Rattle.reading.proofs.Stands.{twenty}
 use Rattle.reading.proofs.ProblemMet.{problem-met, right-before}
 use Rattle.reading.proofs.Twenty.{unheard, either-taken}
 use Rattle.line.specs.Read.{acknowledged, own, decoded, read_answer, carried, payload_in}
-use Rattle.line.specs.declared.Line.TheVariants.{Refused}
 use Rattle.line.proofs.ReadRefusals.{refused-there}
 
 -- ---- a bit
@@ -105,7 +105,7 @@ scan-same run frame place (bit ∷ line) =
     bits (inl e) later = rw e (on (verdict own run frame place bit) later)
     bits (inr e) later = inr (place, place, rw e refl)
 
-pub same_answer : (line : List ℕ) (room : ℕ) → ((p : ℕ) → read_answer acknowledged line room ≡ Refused (NotAcknowledged p) → ⊥)
+pub same_answer : (line : List ℕ) (room : ℕ) → ((p : ℕ) → read_answer acknowledged line room ≡ Err (NotAcknowledged p) → ⊥)
     → (read_answer own line room ≡ read_answer acknowledged line room) × (payload_in own line ≡ payload_in acknowledged line)
 unfolding read_answer payload_in scanned Same
 same_answer line room heard = go (scan-same nothing_sent [] 0 line)
@@ -126,7 +126,7 @@ module _ (line : List ℕ) (k : ℕ) where
   abbrev verdict_at : Reading → Verdict
   verdict_at reading = verdict reading run_to frame_to k (get_or line k 0)
 
-pub not-acknowledged : (line : List ℕ) (room p : ℕ) → read_answer acknowledged line room ≡ Refused (NotAcknowledged p) →
+pub not-acknowledged : (line : List ℕ) (room p : ℕ) → read_answer acknowledged line room ≡ Err (NotAcknowledged p) →
     (p < length line) × (get_or line p 0 ≡ 1) × (length (frame_to line p) ≡ crc_start (frame_to line p) + 16)
     × ((k : ℕ) → k < p → verdict_at line k own ≡ right)
 not-acknowledged line room p e = go (problem-met acknowledged line p (NotAcknowledged p) stop)
@@ -150,7 +150,7 @@ not-acknowledged line room p e = go (problem-met acknowledged line p (NotAcknowl
         (inside, told.1, told.3, left)
     go (inr (at-end, end, more)) = let z : ◌≡◌ {A = ℕ} 0 1 = cc in absurd (omega arith)
 
-pub own-never-20 : (line : List ℕ) (room p : ℕ) → read_answer own line room ≡ Refused (NotAcknowledged p) → ⊥
+pub own-never-20 : (line : List ℕ) (room p : ℕ) → read_answer own line room ≡ Err (NotAcknowledged p) → ⊥
 own-never-20 line room p e =
     go (problem-met own line p (NotAcknowledged p) (refused-there own line room (NotAcknowledged p) e (twenty p) (λ n. omega (arith, n))))
   where

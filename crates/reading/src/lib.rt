@@ -2,7 +2,7 @@
 #![tactic(auto)]
 
 // What a reading takes in the ACK slot. [12.18]
-#[derive(Clone, Copy)]
+#[derive(Clone, Copy, PartialEq, Eq, Debug)]
 pub enum AckSlot {
     // 0: somebody heard the frame.
     Acknowledged,
@@ -11,16 +11,17 @@ pub enum AckSlot {
 }
 
 // What a reading asks of a line beside the rules that hold for every line. [12.18]
-#[derive(Clone, Copy)]
+#[derive(Clone, Copy, PartialEq, Eq, Debug)]
 pub struct Reading {
     pub slot: AckSlot,
 }
 
-// How a line from a live bus is read, and one of our own maker.
+// How a line from a live bus is read.
 pub const ACKNOWLEDGED: Reading = Reading {
     slot: AckSlot::Acknowledged,
 };
 
+// How one of our own maker is.
 pub const OWN: Reading = Reading {
     slot: AckSlot::Either,
 };

@@ -4,7 +4,7 @@
 use mathlib.Core.Path.{◌≡◌, refl, sym, ap, ◌∙◌}
 use mathlib.Core.Bool.{Bool, false}
 use mathlib.Core.List.{List, []}
-use Prim.Native.Nat.{ℕ, zero, suc, ◌+◌, ◌-◌, ◌<◌}
+use Prim.Native.Nat.{ℕ, zero, suc, ◌+◌, ◌-◌, min, ◌<◌}
 use native.Mathlib.Omega.{arith}
 use lib.Dec.{lit<}
 use lib.ListN.{length}
@@ -13,9 +13,8 @@ use Rattle.bits.specs.declared.Run.{Run}
 use Rattle.bits.specs.Stuffing.{nothing_sent}
 use Rattle.reading.specs.Scan.{Verdict, right, onward, scanned}
 use Rattle.reading.specs.declared.Reading.{Reading}
-use Rattle.scanning.specs.Steps.{widths_of, least}
 use Rattle.scanning.specs.declared.seen.Seen.{Seen}
-use Rattle.scanning.proofs.Positions.{width_at, end_of, end_is, first-start}
+use Rattle.scanning.proofs.Positions.{widths_of, width_at, end_of, end_is, first-start}
 use Rattle.scanning.proofs.Known.{in-header}
 use Rattle.scanning.proofs.Registers.{in-header}
 use Rattle.scanning.proofs.RawBits.{none}
@@ -27,7 +26,7 @@ use Rattle.scanning.proofs.Shown.{nothing-behind}
 abbrev pub begun : List ℕ → Seen → ℕ → Seen
 begun line seen end =
     record {
-      stop = least end (length line);
+      stop = min end (length line);
       end = end;
       place = seen.place;
       raw = seen.raw;

@@ -7,7 +7,8 @@ use Prim.Native.Nat.{ℕ, ◌+◌, ◌-◌, ◌*◌, ◌%◌, ◌≤◌, ◌<◌
 use native.Mathlib.Omega.{arith}
 use lib.Dec.{eqb, ltb}
 use lib.ListN.{length}
-use borrow.Author.Tests.{lt-ltb, le-ltb, eq-eqb, ne_eqb, ltb-true, ltb-false}
+use borrow.Author.Tests.{ltb-true, ltb-false}
+use Rattle.std.proofs.Common.{Ok, Err}
 use Rattle.bits.specs.Rows.{bits}
 use Rattle.bits.specs.declared.Run.{Run}
 use Rattle.refusals.specs.declared.Refusal.TheVariants.{FieldLength, LineLength}
@@ -17,13 +18,13 @@ use Rattle.reading.specs.Scan.{long_in, header_width, data_start, dlc_in, crc_st
 use Rattle.reading.specs.declared.Reading.{Reading}
 use Rattle.reading.proofs.Partial.{width-least, start-least}
 use Rattle.reading.proofs.Verdicts.{taken-dlc, length-refused, crc-refused, nothing-shown}
-use Rattle.scanning.specs.Steps.{holding, header_end, header_read, field_read, crc_read, part_end, field_end}
+use Rattle.scanning.specs.Steps.{holding, header_read, field_read, crc_read, last_told, field_end}
+use Rattle.scanning.specs.declared.fields.Last.{Last}
 use Rattle.scanning.specs.declared.seen.Seen.{Seen}
-use Rattle.scanning.specs.declared.seen.Step.TheVariants.{Next, Refused}
-use Rattle.scanning.proofs.Positions.{start_of, end_of, next_start, data-start}
-use Rattle.scanning.proofs.Stages.{Stage, first_bit, ide, before-dlc, dlc, data-bits, crc-bits, ack-slot, ending, stage}
+use Rattle.scanning.proofs.Positions.{start_of, end_of, next_start, form-start, data-start, crc-start, ending-start}
+use Rattle.scanning.proofs.Listed.{Telling, nothing, form, header, data-bits, check}
 use Rattle.scanning.proofs.Known.{crc-known}
-use Rattle.scanning.proofs.Keeping.{bytes, Told, Within, least-not}
+use Rattle.scanning.proofs.Keeping.{bytes, Told, Within}
 use Rattle.scanning.proofs.Widths.{long_behind}
 use Rattle.scanning.proofs.Shown.{nothing-behind}
 use Rattle.scanning.proofs.HeaderNumber.{dlc-read}
@@ -34,13 +35,16 @@ use Rattle.scanning.proofs.FormEnds.{form-ends}
 
 module _ {reading : Reading} {line : List ℕ} {f : ℕ} {long : Bool} {seen : Seen} {run : Run} {left : ℕ} {frame : List ℕ} (h : f < 10)
     (w : Within reading line f long seen run left frame) (told : Told seen run frame) (z : left ≡ 0) where
+  ending : (k : ℕ) → f + 1 ≡ k → end_of f long (bytes seen) ≡ start_of k long (bytes seen)
+  ending k e = next_start long (bytes seen) f ∙ ap (λ (j : ℕ). start_of j long (bytes seen)) e
+
   nothing-here : (f ≡ 1 → ⊥) → (f ≡ 4 → ⊥) → (f ≡ 6 → ⊥) → shown reading run frame (seen.place - 1) ≡ right
   nothing-here not-ide not-dlc not-crc =
       nothing-behind reading run f long seen.header seen.field seen.number frame (seen.place - 1) h not-ide not-dlc not-crc
       (λ i. w.slot i z) (at-end w told z) w.formed w.registers
 
   -- a row behind which nothing is looked at
-  other-ends : (f ≡ 1 → ⊥) → (f ≡ 4 → ⊥) → (f ≡ 5 → ⊥) → (f ≡ 6 → ⊥) → Ends reading line f long run frame (Next seen)
+  other-ends : (f ≡ 1 → ⊥) → (f ≡ 4 → ⊥) → (f ≡ 5 → ⊥) → (f ≡ 6 → ⊥) → Ends reading line f long run frame (Ok seen)
   other-ends not-ide not-dlc not-data not-crc =
       kept w told z long seen.number seen.header seen.field (nothing-here not-ide not-dlc not-crc)
       (at-end w told z ∙ next_start long (bytes seen) f) (λ g. w.formed (omega (arith, not-ide)))
@@ -66,7 +70,7 @@ module _ {reading : Reading} {line : List ℕ} {f : ℕ} {long : Bool} {seen : S
           there = dlc-read start e l
 
           go : (t : Bool) → (eqb (n % 16) 1 || ltb 8 (n % 16)) ≡ t
-              → Ends reading line f long run frame (cond t (Refused (FieldLength (seen.place - 1))) (Next (holding 0 n seen.field seen)))
+              → Ends reading line f long run frame (cond t (Err (FieldLength (seen.place - 1))) (Ok (holding 0 n seen.field seen)))
           go true d = refused w told z _ (length-refused reading run frame (seen.place - 1) late start (rw there d))
           go false d =
               let taken = taken-dlc frame (rw there d) in
@@ -136,52 +140,23 @@ module _ {reading : Reading} {line : List ℕ} {f : ℕ} {long : Bool} {seen : S
               (behind (bits k seen.number) (omega arith) put e (rw fifteen at l)))
           go false d = rw (sym there ∙ d) (refused w told z _ (crc-refused reading run frame (seen.place - 1) late last d))
 
-  part-ends : Ends reading line f (long_behind f long seen) run frame (part_end f seen)
-  unfolding part_end header_end
-  part-ends = go (stage long (bytes seen) f h)
-    where
-      early : f < 4 → (f ≡ 1 → ⊥) → Ends reading line f (long_behind f long seen) run frame (part_end f seen)
-      early g not-ide =
-          rw (ne_eqb f 1 not-ide, lt-ltb f 4 g) (other-ends not-ide (λ d. omega arith) (λ d. omega arith) (λ d. omega arith))
-
-      late : 6 < f → Ends reading line f (long_behind f long seen) run frame (part_end f seen)
-      late g =
-          rw (
-            ne_eqb f 1 (λ d. omega arith),
-            le-ltb f 4 (omega arith),
-            ne_eqb f 4 (λ d. omega arith),
-            ne_eqb f 5 (λ d. omega arith),
-            ne_eqb f 6 (λ d. omega arith),
-          ) (other-ends (λ d. omega arith) (λ d. omega arith) (λ d. omega arith) (λ d. omega arith))
-
-      go : Stage long (bytes seen) f → Ends reading line f (long_behind f long seen) run frame (part_end f seen)
-      go (first_bit g e) = early (omega arith) (λ d. omega arith)
-      go (ide g e) = rw (eq-eqb f 1 g, lt-ltb f 4 (omega arith)) (form-ends w told z g e)
-      go (before-dlc g i e) = early i (λ d. omega arith)
-      go (dlc g e) = rw (ne_eqb f 1 (λ d. omega arith), le-ltb f 4 (omega arith), eq-eqb f 4 g) (header-ends g e)
-      go (data-bits g e) =
-          rw (ne_eqb f 1 (λ d. omega arith), le-ltb f 4 (omega arith), ne_eqb f 4 (λ d. omega arith), eq-eqb f 5 g) (data-ends g e)
-      go (crc-bits g e) =
-          rw (
-            ne_eqb f 1 (λ d. omega arith),
-            le-ltb f 4 (omega arith),
-            ne_eqb f 4 (λ d. omega arith),
-            ne_eqb f 5 (λ d. omega arith),
-            eq-eqb f 6 g,
-          ) (crc-ends g e)
-      go (ack-slot i e) = late (omega arith)
-      go (ending g o e) = late g
+  part-ends : {last : Last} → Telling f last → Ends reading line f (long_behind last long seen) run frame (last_told last seen)
+  part-ends (nothing not-ide not-dlc not-data not-crc) = other-ends not-ide not-dlc not-data not-crc
+  part-ends (form i) = form-ends w told z i (ending 2 (omega arith) ∙ form-start long (bytes seen))
+  part-ends (header i) = header-ends i (ending 5 (omega arith) ∙ data-start long (bytes seen))
+  part-ends (data-bits i) = data-ends i (ending 6 (omega arith) ∙ crc-start long (bytes seen))
+  part-ends (check i) = crc-ends i (ending 7 (omega arith) ∙ ending-start long (bytes seen))
 
 -- where reading stops in the row
-pub field-ends : {reading : Reading} {line : List ℕ} {f : ℕ} {long : Bool} {seen : Seen} {run : Run} {left : ℕ} {frame : List ℕ} → f < 10
-    → Within reading line f long seen run left frame → Told seen run frame → seen.stop ≤ seen.place
-    → Ends reading line f (long_behind f long seen) run frame (field_end f seen)
+pub field-ends : {reading : Reading} {line : List ℕ} {f : ℕ} {long : Bool} {seen : Seen} {run : Run} {left : ℕ} {frame : List ℕ} {last : Last} → f < 10
+    → Within reading line f long seen run left frame → Told seen run frame → seen.stop ≤ seen.place → Telling f last
+    → Ends reading line f (long_behind last long seen) run frame (field_end last seen)
 unfolding field_end
-field-ends {reading} {line} {f} {long} {seen} {run} {left} {frame} h w told over = go (ltb seen.place seen.end) refl
+field-ends {reading} {line} {f} {long} {seen} {run} {left} {frame} {last} h w told over tells = go (ltb seen.place seen.end) refl
   where
     go : (t : Bool) → ltb seen.place seen.end ≡ t
-        → Ends reading line f (long_behind f long seen) run frame (cond t (Refused (LineLength seen.place)) (part_end f seen))
+        → Ends reading line f (long_behind last long seen) run frame (cond t (Err (LineLength seen.place)) (last_told last seen))
     go true d =
         let before = ltb-true seen.place seen.end d in
-        row-missing w h (omega (arith, w.end_is)) (least-not seen.end (length line) seen.place (rw w.stop_is at over) before)
-    go false d = part-ends h w told (omega (arith, w.end_is, ltb-false seen.place seen.end d))
+        row-missing w h (omega (arith, w.end_is)) (omega (arith, w.stop_is))
+    go false d = part-ends h w told (omega (arith, w.end_is, ltb-false seen.place seen.end d)) tells

@@ -7,6 +7,7 @@ use Prim.Native.Nat.{ℕ, ◌+◌, ◌-◌, ◌/◌, ◌%◌}
 use native.Mathlib.Omega.{arith}
 use lib.Dec.{eqb}
 use lib.ListN.{length, get_or}
+use Rattle.std.proofs.Common.{Ok, Err}
 use Rattle.bits.specs.declared.Run.{Run}
 use Rattle.refusals.specs.declared.Refusal.TheVariants.{FixedBit}
 use Rattle.reading.specs.Scan.{long_in, form_right, before_ide, wrong, scanned}
@@ -15,7 +16,6 @@ use Rattle.reading.proofs.Partial.{width-least, start-least}
 use Rattle.reading.proofs.Verdicts.{form-refused, nothing-shown}
 use Rattle.scanning.specs.Steps.{twice, form_read, Stopped}
 use Rattle.scanning.specs.declared.seen.Seen.{Seen}
-use Rattle.scanning.specs.declared.seen.Step.TheVariants.{Next, Refused}
 use Rattle.scanning.proofs.Positions.{start_of, end_of, form-start}
 use Rattle.scanning.proofs.RawBits.{twice-told}
 use Rattle.scanning.proofs.Keeping.{bytes, Told, Within}
@@ -51,7 +51,7 @@ module _ {reading : Reading} {line : List ℕ} {f : ℕ} {long : Bool} {seen : S
           refused w told z (FixedBit k) (form-refused reading run frame (seen.place - 1) fourteen unlike ∙ ap (λ (j : ℕ). wrong (FixedBit j)) e)
 
       at_place : (t u : Bool) → eqb run.count 1 ≡ t → u ≡ not t → form_right frame ≡ false
-          → Ends reading line f to run frame (cond u (Refused (FixedBit (seen.place - 3))) (Refused (FixedBit (seen.place - 2))))
+          → Ends reading line f to run frame (cond u (Err (FixedBit (seen.place - 3))) (Err (FixedBit (seen.place - 2))))
       at_place true true d same unlike = absurd (true≢false same)
       at_place true false d same unlike = other _ (rw d (omega arith)) unlike
       at_place false true d same unlike = other _ (rw d (omega arith)) unlike
@@ -65,7 +65,7 @@ module _ {reading : Reading} {line : List ℕ} {f : ℕ} {long : Bool} {seen : S
 
           go : (t : Bool) → twice seen.number ≡ t
               → Ends reading line f to run frame
-              (cond t (Next seen) (cond (twice seen.raw) (Refused (FixedBit (seen.place - 3))) (Refused (FixedBit (seen.place - 2)))))
+              (cond t (Ok seen) (cond (twice seen.raw) (Err (FixedBit (seen.place - 3))) (Err (FixedBit (seen.place - 2)))))
           go true d =
               let early = (start-least frame).0 in
               let next : f + 1 ≡ 2 = omega arith in

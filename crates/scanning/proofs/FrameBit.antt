@@ -12,6 +12,7 @@ use native.Mathlib.Omega.{arith}
 use lib.Dec.{eqb, lit<}
 use lib.ListN.{length, get_or, drop}
 use borrow.Author.Tests.{eqb-true, eqb-false}
+use Rattle.std.proofs.Common.{Result, Ok, Err}
 use Rattle.bits.specs.declared.Run.{Run}
 use Rattle.bits.specs.Stuffing.{counted}
 use Rattle.refusals.specs.declared.Refusal.TheVariants.{LineByte, FixedBit}
@@ -21,10 +22,9 @@ use Rattle.reading.specs.declared.Reading.{Reading}
 use Rattle.reading.proofs.Partial.{must-early}
 use Rattle.reading.proofs.StuffDue.{due-within}
 use Rattle.reading.proofs.Verdicts.{byte-above-1, fixed-bit, frame-bit}
+use Rattle.refusals.specs.declared.Refusal.{Refusal}
 use Rattle.scanning.specs.Steps.{bit_at, one_on, Stopped}
 use Rattle.scanning.specs.declared.seen.Seen.{Seen}
-use Rattle.scanning.specs.declared.seen.Step.{Step}
-use Rattle.scanning.specs.declared.seen.Step.TheVariants.{Next, Refused}
 use Rattle.scanning.proofs.Positions.{form-from, ending-from}
 use Rattle.scanning.proofs.Known.{behind-the-crc}
 use Rattle.scanning.proofs.Keeping.{bytes, pending, Told, Formed, formed-more, Within}
@@ -35,11 +35,11 @@ use Rattle.scanning.proofs.Shown.{shown-inside}
 use Rattle.scanning.proofs.InRow.{begun, leads, within-crc}
 
 -- what a step in row f leads to
-abbrev pub Goes : Reading → List ℕ → ℕ → Bool → Seen → Step → Type 0
-Goes reading line f long seen (Next next) =
+abbrev pub Goes : Reading → List ℕ → ℕ → Bool → Seen → Result Seen Refusal → Type 0
+Goes reading line f long seen (Ok next) =
     (run : Run) × (left : ℕ) × (frame : List ℕ) × Within reading line f long next run left frame × Told next run frame
     × (seen.place < length line) × (seen.place < next.place) × (next.header ≡ seen.header)
-Goes reading line f long seen (Refused refusal) = Stopped (scanned reading line) refusal
+Goes reading line f long seen (Err refusal) = Stopped (scanned reading line) refusal
 
 counted-some : (run : Run) (b : ℕ) → counted run b ≡ 0 → ⊥
 counted-some run b = go (eqb b run.bit)
@@ -69,7 +69,7 @@ module _ {reading : Reading} {line : List ℕ} {f : ℕ} {long : Bool} {seen : S
   goes = went reading line seen run frame (leads w h some) (begun w h some) inside
 
   -- a byte that is no bit
-  pub byte-goes : 1 < b → Goes reading line f long seen (Refused (LineByte seen.place))
+  pub byte-goes : 1 < b → Goes reading line f long seen (Err (LineByte seen.place))
   byte-goes d = (seen.place, goes _ (byte-above-1 reading run frame seen.place b (begun w h some) d))
 
   module _ (bit : b ≤ 1) where
@@ -85,7 +85,7 @@ module _ {reading : Reading} {line : List ℕ} {f : ℕ} {long : Bool} {seen : S
     formed-on g = formed-more long frame (b ∷ []) (omega (arith, w.from, form-from long (bytes seen) f g)) (w.formed g)
 
     -- a bit that may not stand there
-    pub fixed_goes : fits (must_be frame) b ≡ false → Goes reading line f long seen (Refused (FixedBit seen.place))
+    pub fixed_goes : fits (must_be frame) b ≡ false → Goes reading line f long seen (Err (FixedBit seen.place))
     fixed_goes d = (seen.place, goes _ (fixed-bit reading run frame seen.place b (begun w h some) bit due d))
 
     -- and one that may
@@ -124,7 +124,7 @@ module _ {reading : Reading} {line : List ℕ} {f : ℕ} {long : Bool} {seen : S
       -- whatever raw bits and number are kept of it
       pub right-goes : (raw number : ℕ) → Registers f seen.header seen.field number more
           → Told (one_on raw number seen) (run_with run b) more → (f ≡ 8 → slot_right reading more ≡ true)
-          → Goes reading line f long seen (Next (one_on raw number seen))
+          → Goes reading line f long seen (Ok (one_on raw number seen))
       unfolding run_with frame_with
       right-goes raw number registers told slot =
           let back : seen.place + 1 - 1 ≡ seen.place = omega arith in

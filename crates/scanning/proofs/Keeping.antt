@@ -3,21 +3,18 @@
 --     Told               as long as a stuff bit may come, the raw bits tell the run
 --     Formed, formed-more    the frame has this form, and the bit before IDE is right; so it stays
 --     Between, Within    before a row, and in it, with so many bits to come; behind its last bit what the frame shows is still to be looked at
---     least-both, least-over, least-not    places before the one that comes first, and behind it
---     end-small          the place of the row's end leaves room for more
+--     end-near           the row's end is not far
 use mathlib.Core.Path.{◌≡◌, refl, ap₂, ◌∙◌}
-use mathlib.Core.Bool.{Bool, true, false, cond}
+use mathlib.Core.Bool.{Bool, true}
 use mathlib.Core.List.{List, ◌++◌}
-use Prim.Native.Nat.{ℕ, zero, suc, ◌+◌, ◌-◌, ◌%◌, ◌≤◌, ◌<◌}
+use Prim.Native.Nat.{ℕ, zero, suc, ◌+◌, ◌-◌, ◌%◌, min, ◌≤◌, ◌<◌}
 use native.Mathlib.Omega.{arith}
-use lib.Dec.{eqb, ltb}
+use lib.Dec.{eqb}
 use lib.ListN.{length, get_or-append}
-use borrow.Author.Tests.{ltb-true, ltb-false}
 use Rattle.bits.specs.declared.Run.{Run}
 use Rattle.reading.specs.Scan.{long_in, crc_start, form_right, slot_right, Verdict, right, shown, onward, scanned}
 use Rattle.reading.specs.declared.Reading.{Reading}
 use Rattle.reading.proofs.Partial.{width-most, long-stays}
-use Rattle.scanning.specs.Steps.{least}
 use Rattle.scanning.specs.declared.seen.Seen.{Seen}
 use Rattle.scanning.proofs.Positions.{start_of, end_of, end-within}
 use Rattle.scanning.proofs.Passing.{rest}
@@ -69,7 +66,7 @@ pub record Between (reading : Reading) (line : List ℕ) (f : ℕ) (long : Bool)
 pub record Within (reading : Reading) (line : List ℕ) (f : ℕ) (long : Bool) (seen : Seen) (run : Run) (left : ℕ) (frame : List ℕ) : Type 0 where
   pub leads : scanned reading line ≡ onward (seen.place - 1) (pending reading run left frame seen.place) (rest reading line seen run frame)
   pub end_is : seen.place + left ≡ seen.end
-  pub stop_is : seen.stop ≡ least seen.end (length line)
+  pub stop_is : seen.stop ≡ min seen.end (length line)
   pub at-is : length frame + left ≡ end_of f long (bytes seen)
   pub from : start_of f long (bytes seen) ≤ length frame
   pub formed : 1 < f → Formed long frame
@@ -79,33 +76,8 @@ pub record Within (reading : Reading) (line : List ℕ) (f : ℕ) (long : Bool) 
   pub reached : seen.place ≤ length line
   pub behind : length frame ≤ seen.place
 
--- places before the one that comes first, and behind it
-pub least-both : (a b k : ℕ) → k < least a b → (k < a) × (k < b)
-unfolding least
-least-both a b k h = go (ltb a b) refl h
-  where
-    go : (t : Bool) → ltb a b ≡ t → k < cond t a b → (k < a) × (k < b)
-    go true e l = (l, omega (arith, ltb-true a b e))
-    go false e l = (omega (arith, ltb-false a b e), l)
-
-pub least-over : (a b k : ℕ) → k < a → k < b → k < least a b
-unfolding least
-least-over a b k g h = go (ltb a b)
-  where
-    go : (t : Bool) → k < cond t a b
-    go true = g
-    go false = h
-
-pub least-not : (a b k : ℕ) → least a b ≤ k → k < a → b ≤ k
-unfolding least
-least-not a b k h g = go (ltb a b) h
-  where
-    go : (t : Bool) → cond t a b ≤ k → b ≤ k
-    go true l = absurd (omega arith)
-    go false l = l
-
--- a row's end leaves room for more places
-pub end-small : (reading : Reading) (line : List ℕ) (f : ℕ) (long : Bool) (seen : Seen) (run : Run) (left : ℕ) (frame : List ℕ) → f < 10
-    → Within reading line f long seen run left frame → seen.end ≤ length line + 184
-end-small reading line f long seen run left frame h w =
-    omega (arith, w.end_is, w.at-is, w.reached, end-within long (bytes seen) f h, width-most long)
+-- the row's end is not far
+pub end-near : (reading : Reading) (line : List ℕ) (f : ℕ) (long : Bool) (seen : Seen) (run : Run) (left : ℕ) (frame : List ℕ) → f < 10
+    → Within reading line f long seen run left frame → seen.end ≤ seen.place + 184
+end-near reading line f long seen run left frame h w =
+    omega (arith, w.end_is, w.at-is, end-within long (bytes seen) f h, width-most long)

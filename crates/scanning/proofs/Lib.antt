@@ -2,10 +2,10 @@ pub mod Positions
 pub mod Stages
 pub mod Known
 pub mod Rows
+pub mod Listed
 pub mod RawBits
 pub mod HeaderNumber
 pub mod Registers
-pub mod LineBit
 pub mod Passing
 pub mod Keeping
 pub mod Shown

@@ -10,6 +10,7 @@ use lib.Dec.{lit<}
 use lib.ListN.{length, get_or, drop_of_length-le}
 use lib.Seq.{drop-cons}
 use borrow.Author.Tests.{eq-eqb}
+use Rattle.std.proofs.Common.{Ok}
 use Rattle.bits.specs.declared.Run.{Run}
 use Rattle.refusals.specs.declared.Refusal.TheVariants.{LineLength}
 use Rattle.reading.specs.Scan.{identifier_in, dlc_in, complete, crc_start, scan, scanned}
@@ -18,7 +19,6 @@ use Rattle.reading.proofs.Verdicts.{bit-too-many}
 use Rattle.scanning.specs.Held.{data_in}
 use Rattle.scanning.specs.Steps.{Stopped, Holds, Reads}
 use Rattle.scanning.specs.declared.seen.Seen.{Seen}
-use Rattle.scanning.specs.declared.seen.Step.TheVariants.{Next}
 use Rattle.scanning.proofs.Positions.{frame-end}
 use Rattle.scanning.proofs.Known.{crc-known, in-header}
 use Rattle.scanning.proofs.HeaderNumber.{identifier-in}
@@ -44,7 +44,7 @@ module _ (reading : Reading) (line : List ℕ) (long : Bool) (seen : Seen) (run 
         ∙ rw (bit-too-many reading run frame seen.place (get_or line seen.place 0) ended) refl,
   )
 
-  pub line_read : length line ≤ seen.place → Reads (Next seen) (scanned reading line)
+  pub line_read : length line ≤ seen.place → Reads (Ok seen) (scanned reading line)
   unfolding scan
   line_read h =
       (frame, b.leads ∙ ap (scan reading run frame seen.place) (drop_of_length-le line h) ∙ rw ended refl, holds b.registers)

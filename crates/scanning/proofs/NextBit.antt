@@ -1,23 +1,22 @@
 -- A bit of the frame, with the stuff bit before it: both are right, or the line is refused as the definition says. Assumes nothing.
 --     bit-goes       a bit of the line
 use mathlib.Core.Path.{◌≡◌, refl, sym, ap, ◌∙◌, subst}
-use mathlib.Core.Bool.{Bool, true, false, cond}
+use mathlib.Core.Bool.{Bool, false}
 use mathlib.Core.List.{List}
 use Prim.Native.Nat.{ℕ, ◌+◌, ◌*◌, ◌%◌, ◌≤◌, ◌<◌}
 use native.Mathlib.Omega.{arith}
-use lib.Dec.{eqb, ltb}
 use lib.ListN.{length}
-use borrow.Author.Tests.{ltb-true, ltb-false, eqb-true, eqb-false}
+use Rattle.std.proofs.Common.{Result, Ok, Err}
 use Rattle.bits.specs.declared.Run.{Run}
-use Rattle.reading.specs.Form.{either}
 use Rattle.reading.specs.Scan.{crc_start, stuff_due, must_be}
 use Rattle.reading.specs.declared.Reading.{Reading}
-use Rattle.scanning.specs.Steps.{passed, field_bit, slot_bit, one_bit, and_then, delimiter_bit, ending_bit, line_bit}
+use Rattle.refusals.specs.declared.Refusal.{Refusal}
+use Rattle.scanning.specs.Steps.{passed, field_bit, one_bit, and_then, line_bit}
+use Rattle.scanning.specs.declared.fields.Rule.{Rule}
 use Rattle.scanning.specs.declared.seen.Seen.{Seen}
-use Rattle.scanning.specs.declared.seen.Step.{Step}
-use Rattle.scanning.specs.declared.seen.Step.TheVariants.{Next, Refused}
+use Rattle.scanning.proofs.Listed.{Ruled, stuffed, delimiter, slot, one}
 use Rattle.scanning.proofs.Rows.{most_at, most-bit, most-slot, must-field, must-slot, must-one}
-use Rattle.scanning.proofs.Keeping.{bytes, pending-none, Told, Within, least-both}
+use Rattle.scanning.proofs.Keeping.{bytes, pending-none, Told, Within}
 use Rattle.scanning.proofs.Passing.{Passes, pass-goes}
 use Rattle.scanning.proofs.RawBits.{Tells}
 use Rattle.scanning.proofs.InRow.{form-known, length-known, reach, begun, leads, within-crc, none-late}
@@ -32,7 +31,7 @@ Ready reading line f long left frame run next =
 module _ {reading : Reading} {line : List ℕ} {f : ℕ} {long : Bool} {seen : Seen} {run : Run} {left : ℕ} {frame : List ℕ} (h : f < 10)
     (w : Within reading line f long seen run left frame) (told : Told seen run frame) (before : seen.place < seen.stop) where
   both : (seen.place < seen.end) × (seen.place < length line)
-  both = least-both seen.end (length line) seen.place (rw w.stop_is at before)
+  both = (omega (arith, w.stop_is), omega (arith, w.stop_is))
 
   some : 0 < left
   some = omega (arith, w.end_is, both.0)
@@ -72,53 +71,40 @@ module _ {reading : Reading} {line : List ℕ} {f : ℕ} {long : Bool} {seen : S
       here : length frame ≤ crc_start frame + 15
       here = within-crc w h some g
 
-  further : (next : Seen) (s : Step) → seen.place ≤ next.place → next.header ≡ seen.header → Goes reading line f long next s
+  further : (next : Seen) (s : Result Seen Refusal) → seen.place ≤ next.place → next.header ≡ seen.header → Goes reading line f long next s
       → Goes reading line f long seen s
-  further next (Next last) l same g = (g.0, g.1, g.2, g.3, g.4, both.1, omega (arith, g.6), g.7 ∙ same)
-  further next (Refused refusal) l same g = g
+  further next (Ok last) l same g = (g.0, g.1, g.2, g.3, g.4, both.1, omega (arith, g.6), g.7 ∙ same)
+  further next (Err refusal) l same g = g
 
   -- and the bit then
-  then-goes : (bit : Seen → Step) → ((r : Run) (next : Seen) → Ready reading line f long left frame r next → Goes reading line f long next (bit next))
-      → (s : Step) → Passes reading line Behind s → Goes reading line f long seen (and_then s bit)
-  then-goes bit goes (Next next) (r, (ready, l, same)) = further next (bit next) l same (goes r next ready)
-  then-goes bit goes (Refused refusal) e = e
+  then-goes : (bit : Seen → Result Seen Refusal) → ((r : Run) (next : Seen) → Ready reading line f long left frame r next → Goes reading line f long next (bit next))
+      → (s : Result Seen Refusal) → Passes reading line Behind s → Goes reading line f long seen (and_then s bit)
+  then-goes bit goes (Ok next) (r, (ready, l, same)) = further next (bit next) l same (goes r next ready)
+  then-goes bit goes (Err refusal) e = e
 
   -- where `most` is the greatest that may stand in the row
-  pub bit-goes : (most : ℕ) → most ≡ most_at reading f → Goes reading line f long seen (line_bit f most line seen)
-  unfolding line_bit ending_bit delimiter_bit
-  bit-goes most is = late (ltb 6 f) refl
+  pub bit-goes : (most : ℕ) → most ≡ most_at reading f → {rule : Rule} → Ruled f rule → Goes reading line f long seen (line_bit rule most line seen)
+  bit-goes most is = go
     where
       small : most ≤ 1
       small = omega (arith, is, most-bit reading f h)
 
-      must : (f ≤ 6 → must_be frame ≡ 2 * most) × (f ≡ 8 → must_be frame ≡ either) × (6 < f → (f ≡ 8 → ⊥) → must_be frame ≡ 1)
-      must = (
-        λ few. must-field f long (bytes seen) frame (form-known w) (length-known w) w.from (reach w h some) reading few ∙ ap (λ (k : ℕ). 2 * k) (sym is),
-        must-slot f long (bytes seen) frame (form-known w) (length-known w) w.from (reach w h some),
-        must-one f long (bytes seen) frame (form-known w) (length-known w) w.from (reach w h some) h,
-      )
+      must-be-one : 6 < f → (f ≡ 8 → ⊥) → must_be frame ≡ 1
+      must-be-one = must-one f long (bytes seen) frame (form-known w) (length-known w) w.from (reach w h some) h
 
-      row : 6 < f → (f ≡ 8 → ⊥) → (t : Bool) → eqb f 7 ≡ t
-          → Goes reading line f long seen (cond t (and_then (passed seen.raw line seen) (one_bit line)) (one_bit line seen))
-      row over not-slot true e =
-          then-goes (one_bit line) (λ r next (v, tells, due, inside). one-goes h v some inside due (must.2 over not-slot) over not-slot)
-          (passed seen.raw line seen) (stuffed-goes seen.raw (omega (arith, eqb-true f 7 e)) (λ few. absurd (omega arith)))
-      row over not-slot false e =
-          one-goes h w some both.1 (none-late w h some (omega (arith, eqb-false f 7 e))) (must.2 over not-slot) over not-slot
-
-      ending : 6 < f → (t : Bool) → eqb f 8 ≡ t
-          → Goes reading line f long seen
-          (cond t (slot_bit most line seen) (cond (eqb f 7) (and_then (passed seen.raw line seen) (one_bit line)) (one_bit line seen)))
-      ending over true e =
-          let i = eqb-true f 8 e in
-          slot-goes h w some both.1 (none-late w h some (omega arith)) i most (is ∙ ap (most_at reading) i ∙ most-slot reading) small (must.1 i)
-      ending over false e = row over (eqb-false f 8 e) (eqb f 7) refl
-
-      late : (t : Bool) → ltb 6 f ≡ t
-          → Goes reading line f long seen
-          (cond t (ending_bit f most line seen) (and_then (passed (1 + seen.raw % 2) line seen) (field_bit most line)))
-      late true e = ending (ltb-true 6 f e) (eqb f 8) refl
-      late false e =
-          let few = ltb-false 6 f e in
-          then-goes (field_bit most line) (λ r next (v, tells, due, inside). field-goes h v some inside due most small (must.0 few) few (tells few))
+      go : {rule : Rule} → Ruled f rule → Goes reading line f long seen (line_bit rule most line seen)
+      go (stuffed few) =
+          let must = must-field f long (bytes seen) frame (form-known w) (length-known w) w.from (reach w h some) reading few ∙ ap (λ (k : ℕ). 2 * k) (sym is) in
+          then-goes (field_bit most line) (λ r next (v, tells, due, inside). field-goes h v some inside due most small must few (tells few))
           (passed (1 + seen.raw % 2) line seen) (stuffed-goes (1 + seen.raw % 2) (omega arith) (λ g. refl))
+      go (delimiter i) =
+          let not-slot : f ≡ 8 → ⊥ = λ e. omega arith in
+          then-goes (one_bit line)
+          (λ r next (v, tells, due, inside). one-goes h v some inside due (must-be-one (omega arith) not-slot) (omega arith) not-slot)
+          (passed seen.raw line seen) (stuffed-goes seen.raw (omega arith) (λ few. absurd (omega arith)))
+      go (slot i) =
+          slot-goes h w some both.1 (none-late w h some (omega arith)) i most (is ∙ ap (most_at reading) i ∙ most-slot reading) small
+          (must-slot f long (bytes seen) frame (form-known w) (length-known w) w.from (reach w h some) i)
+      go (one i) =
+          let not-slot : f ≡ 8 → ⊥ = λ e. omega arith in
+          one-goes h w some both.1 (none-late w h some (omega arith)) (must-be-one (omega arith) not-slot) (omega arith) not-slot

@@ -14,6 +14,7 @@ use lib.Dec.{eqb, leb, ltb}
 use lib.ListN.{length, drop, drop_of_length-le}
 use lib.Seq.{drop-cons}
 use borrow.Author.Tests.{ne_eqb, ltb-true, ltb-false, leb-true, leb-false, eqb-true, eqb-false}
+use Rattle.std.proofs.Common.{Result, Ok, Err}
 use Rattle.bits.specs.declared.Run.{Run}
 use Rattle.bits.specs.Stuffing.{counted}
 use Rattle.refusals.specs.declared.Refusal.TheVariants.{LineByte, StuffBit, LineLength}
@@ -21,10 +22,9 @@ use Rattle.reading.specs.Scan.{complete, crc_start, stuff_due, Verdict, right, v
 use Rattle.reading.specs.declared.Reading.{Reading}
 use Rattle.reading.proofs.StuffDue.{due-within}
 use Rattle.reading.proofs.Verdicts.{byte-above-1, sixth-bit, stuff-bit}
+use Rattle.refusals.specs.declared.Refusal.{Refusal}
 use Rattle.scanning.specs.Steps.{bit_at, behind_stuff_bit, due_in, stuff_bit, passed, Stopped}
 use Rattle.scanning.specs.declared.seen.Seen.{Seen}
-use Rattle.scanning.specs.declared.seen.Step.{Step}
-use Rattle.scanning.specs.declared.seen.Step.TheVariants.{Next, Refused}
 use Rattle.scanning.proofs.RawBits.{Tells, five-told, bit-told, told-stuff}
 
 abbrev pub rest : Reading → List ℕ → Seen → Run → List ℕ → Scanned
@@ -39,9 +39,9 @@ pub record Stuffed (reading : Reading) (line : List ℕ) (seen : Seen) (run : Ru
   pub none-due : stuff_due run frame ≡ false
 
 -- what is to hold of the run and of what is seen behind it
-abbrev pub Passes : Reading → List ℕ → (Run → Seen → Type 0) → Step → Type 0
-Passes reading line P (Next next) = (run : Run) × P run next
-Passes reading line P (Refused refusal) = Stopped (scanned reading line) refusal
+abbrev pub Passes : Reading → List ℕ → (Run → Seen → Type 0) → Result Seen Refusal → Type 0
+Passes reading line P (Ok next) = (run : Run) × P run next
+Passes reading line P (Err refusal) = Stopped (scanned reading line) refusal
 
 module _ (reading : Reading) (line : List ℕ) (seen : Seen) (run : Run) (frame : List ℕ)
     (leads : scanned reading line ≡ rest reading line seen run frame) (begun : complete frame ≡ false) where
@@ -104,7 +104,7 @@ module _ (reading : Reading) (line : List ℕ) (seen : Seen) (run : Run) (frame 
               last = bit-told seen.raw run tells five
 
               follows : b ≤ 1 → (b ≡ run.bit → ⊥) → (t : Bool) → leb (length line) (seen.place + 1) ≡ t
-                  → Passes reading line P (cond t (Refused (LineLength (seen.place + 1))) (Next (behind_stuff_bit raw line seen)))
+                  → Passes reading line P (cond t (Err (LineLength (seen.place + 1))) (Ok (behind_stuff_bit raw line seen)))
               follows bit other true d = (
                 seen.place + 1,
                 onto bit other ∙ ap (scan reading (run_with run b) frame (seen.place + 1)) (drop_of_length-le line (leb-true _ _ d))
@@ -114,16 +114,16 @@ module _ (reading : Reading) (line : List ℕ) (seen : Seen) (run : Run) (frame 
 
               sixth : b ≤ 1 → (t : Bool) → eqb b (seen.raw % 2) ≡ t
                   → Passes reading line P
-                  (cond t (Refused (StuffBit seen.place))
-                  (cond (leb (length line) (seen.place + 1)) (Refused (LineLength (seen.place + 1))) (Next (behind_stuff_bit raw line seen))))
+                  (cond t (Err (StuffBit seen.place))
+                  (cond (leb (length line) (seen.place + 1)) (Err (LineLength (seen.place + 1))) (Ok (behind_stuff_bit raw line seen))))
               sixth bit true d = (seen.place, went _ (sixth-bit reading run frame seen.place b begun bit due (eqb-true _ _ d ∙ sym last)))
               sixth bit false d = follows bit (λ e. eqb-false _ _ d (e ∙ last)) (leb (length line) (seen.place + 1)) refl
 
               byte : (t : Bool) → ltb 1 b ≡ t
                   → Passes reading line P
-                  (cond t (Refused (LineByte seen.place))
-                  (cond (eqb b (seen.raw % 2)) (Refused (StuffBit seen.place))
-                  (cond (leb (length line) (seen.place + 1)) (Refused (LineLength (seen.place + 1))) (Next (behind_stuff_bit raw line seen)))))
+                  (cond t (Err (LineByte seen.place))
+                  (cond (eqb b (seen.raw % 2)) (Err (StuffBit seen.place))
+                  (cond (leb (length line) (seen.place + 1)) (Err (LineLength (seen.place + 1))) (Ok (behind_stuff_bit raw line seen)))))
               byte true d = (seen.place, went _ (byte-above-1 reading run frame seen.place b begun (ltb-true _ _ d)))
               byte false d = sixth (ltb-false _ _ d) (eqb b (seen.raw % 2)) refl
 
@@ -134,6 +134,6 @@ module _ (reading : Reading) (line : List ℕ) (seen : Seen) (run : Run) (frame 
       unfolding passed
       pass-goes raw P as_it_was behind = go (due_in seen.raw) refl
         where
-          go : (t : Bool) → due_in seen.raw ≡ t → Passes reading line P (cond t (stuff_bit raw line seen) (Next seen))
+          go : (t : Bool) → due_in seen.raw ≡ t → Passes reading line P (cond t (stuff_bit raw line seen) (Ok seen))
           go true d = stuff-goes (due-told ∙ d) raw P behind
           go false d = (run, as_it_was (due-told ∙ d))

@@ -1,4 +1,5 @@
 -- Where the rows stand that the code reads a frame by. Assumes nothing.
+--     widths_of    how many bits each field has, in a form and with n data bytes
 --     width_at, before   how many bits field f has, and how many stand before it
 --     start_of, end_of, end_is    the positions of field f's first bit and of the one behind its last, in a form and with n data bytes
 --     next_start        a field starts where the one before it ends
@@ -7,7 +8,7 @@
 --     later, form-from, data-from, ending-from, slot-from, last-from    from where on a field stands
 --     end-some, ide-end, header-end, data-end, crc-end, delimiter-end, slot-end, end-within    and how far it reaches
 use mathlib.Core.Path.{◌≡◌, refl, sym, ap, subst}
-use mathlib.Core.Bool.{Bool, true, false}
+use mathlib.Core.Bool.{Bool, true, false, cond}
 use mathlib.Core.List.{List, [], ◌∷◌}
 use Prim.Native.Nat.{ℕ, zero, suc, ◌+◌, ◌-◌, ◌*◌, ◌≤◌, ◌<◌}
 use native.Mathlib.Nat.{suc-add}
@@ -15,7 +16,10 @@ use native.Mathlib.Numerals.{add-one}
 use native.Mathlib.Omega.{arith}
 use lib.ListN.{get_or}
 use Rattle.reading.specs.Scan.{header_width}
-use Rattle.scanning.specs.Steps.{widths_of}
+
+-- how many bits each field has
+unfoldable pub widths_of : Bool → ℕ → List ℕ
+widths_of long n = 1 ∷ 13 ∷ cond long 18 0 ∷ cond long 3 1 ∷ 4 ∷ 8 * n ∷ 15 ∷ 1 ∷ 1 ∷ 8 ∷ []
 
 -- how many bits field f has
 abbrev pub width_at : ℕ → Bool → ℕ → ℕ

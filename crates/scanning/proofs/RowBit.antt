@@ -11,6 +11,7 @@ use lib.Dec.{eqb, leb, ltb}
 use lib.ListN.{length, get_or}
 use lib.Seq.{get_or-append-add}
 use borrow.Author.Tests.{le-leb, lt-leb, ltb-true, ltb-false, eqb-true, eqb-false}
+use Rattle.std.proofs.Common.{Ok, Err}
 use Rattle.bits.specs.declared.Run.{Run}
 use Rattle.refusals.specs.declared.Refusal.{Refusal}
 use Rattle.refusals.specs.declared.Refusal.TheVariants.{LineByte, FixedBit, NotAcknowledged}
@@ -22,7 +23,6 @@ use Rattle.reading.proofs.Fitting.{unfit, fit}
 use Rattle.reading.proofs.Verdicts.{slot-refused}
 use Rattle.scanning.specs.Steps.{bit_at, behind_bit, behind_ending, above, bit_at_most, field_bit, slot_bit, one_bit}
 use Rattle.scanning.specs.declared.seen.Seen.{Seen}
-use Rattle.scanning.specs.declared.seen.Step.TheVariants.{Next, Refused}
 use Rattle.scanning.proofs.Positions.{slot-from, slot-end}
 use Rattle.scanning.proofs.Known.{crc-known}
 use Rattle.scanning.proofs.Keeping.{bytes, Within}
@@ -42,17 +42,17 @@ module _ {reading : Reading} {line : List ℕ} {f : ℕ} {long : Bool} {seen : S
   more = frame ++ (b ∷ [])
 
   -- a bit at most `most`, a 1 above it, and a byte that is no bit
-  at_most : (most : ℕ) (refusal : Refusal) (next : Seen) → most ≤ 1 → (b ≤ most → Goes reading line f long seen (Next next))
-      → (b ≡ 1 → most < b → Goes reading line f long seen (Refused refusal)) → Goes reading line f long seen (bit_at_most most refusal line seen next)
+  at_most : (most : ℕ) (refusal : Refusal) (next : Seen) → most ≤ 1 → (b ≤ most → Goes reading line f long seen (Ok next))
+      → (b ≡ 1 → most < b → Goes reading line f long seen (Err refusal)) → Goes reading line f long seen (bit_at_most most refusal line seen next)
   unfolding bit_at_most above
   at_most most refusal next small low one = first (ltb most b) refl
     where
-      wrong : (t : Bool) → eqb b 1 ≡ t → most < b → Goes reading line f long seen (cond t (Refused refusal) (Refused (LineByte seen.place)))
+      wrong : (t : Bool) → eqb b 1 ≡ t → most < b → Goes reading line f long seen (cond t (Err refusal) (Err (LineByte seen.place)))
       wrong true d over = one (eqb-true b 1 d) over
       wrong false d over = let other = eqb-false b 1 d in byte-goes h w some inside due (omega arith)
 
       first : (t : Bool) → ltb most b ≡ t
-          → Goes reading line f long seen (cond t (cond (eqb b 1) (Refused refusal) (Refused (LineByte seen.place))) (Next next))
+          → Goes reading line f long seen (cond t (cond (eqb b 1) (Err refusal) (Err (LineByte seen.place))) (Ok next))
       first true d = wrong (eqb b 1) refl (ltb-true most b d)
       first false d = low (ltb-false most b d)
 
@@ -61,14 +61,14 @@ module _ {reading : Reading} {line : List ℕ} {f : ℕ} {long : Bool} {seen : S
       → Goes reading line f long seen (field_bit most line seen)
   field-goes most small m g tells = at_most most _ _ small low one
     where
-      low : b ≤ most → Goes reading line f long seen (Next (behind_bit b seen))
+      low : b ≤ most → Goes reading line f long seen (Ok (behind_bit b seen))
       low l =
           let bit : b ≤ 1 = omega arith in
           let may = fit (must_be frame) b (omega (arith, m)) bit (λ e. omega (arith, m)) in
           right-goes h w some inside due bit may _ _ (added h w some inside due bit g)
           (λ few. told-on h w some inside due bit may (omega arith) tells) (λ i. absurd (omega arith))
 
-      one : b ≡ 1 → most < b → Goes reading line f long seen (Refused (FixedBit seen.place))
+      one : b ≡ 1 → most < b → Goes reading line f long seen (Err (FixedBit seen.place))
       one is over = fixed_goes h w some inside due (omega arith) (unfit (must_be frame) b (omega arith) (omega (arith, m)))
 
   -- behind the CRC, but for the ACK slot
@@ -77,7 +77,7 @@ module _ {reading : Reading} {line : List ℕ} {f : ℕ} {long : Bool} {seen : S
   one-goes m g not-slot = first (eqb b 1) refl
     where
       second : (t : Bool) → eqb b 0 ≡ t → (b ≡ 1 → ⊥)
-          → Goes reading line f long seen (cond t (Refused (FixedBit seen.place)) (Refused (LineByte seen.place)))
+          → Goes reading line f long seen (cond t (Err (FixedBit seen.place)) (Err (LineByte seen.place)))
       second true d n =
           let none = eqb-true b 0 d in
           fixed_goes h w some inside due (omega arith) (unfit (must_be frame) b (omega arith) (omega (arith, m)))
@@ -85,7 +85,7 @@ module _ {reading : Reading} {line : List ℕ} {f : ℕ} {long : Bool} {seen : S
 
       first : (t : Bool) → eqb b 1 ≡ t
           → Goes reading line f long seen
-          (cond t (Next (behind_ending seen)) (cond (eqb b 0) (Refused (FixedBit seen.place)) (Refused (LineByte seen.place))))
+          (cond t (Ok (behind_ending seen)) (cond (eqb b 0) (Err (FixedBit seen.place)) (Err (LineByte seen.place))))
       first true d =
           let one = eqb-true b 1 d in
           let bit : b ≤ 1 = omega arith in
@@ -119,13 +119,13 @@ module _ {reading : Reading} {line : List ℕ} {f : ℕ} {long : Bool} {seen : S
         shows : (bit : b ≤ 1) (t : Bool) → leb b most ≡ t → slot_right reading more ≡ t
         shows bit t d = ap₂ leb (in-slot bit).1 (sym is) ∙ d
 
-        low : b ≤ most → Goes reading line f long seen (Next (behind_ending seen))
+        low : b ≤ most → Goes reading line f long seen (Ok (behind_ending seen))
         low l =
             let bit : b ≤ 1 = omega arith in
             right-goes h w some inside due bit (may bit) _ _ (added-late h w some inside due bit (omega arith))
             (untold h w some inside due bit (may bit) _ (omega arith)) (λ e. shows bit true (le-leb b most l))
 
-        one : b ≡ 1 → most < b → Goes reading line f long seen (Refused (NotAcknowledged seen.place))
+        one : b ≡ 1 → most < b → Goes reading line f long seen (Err (NotAcknowledged seen.place))
         one e over =
             let bit : b ≤ 1 = omega arith in (
               seen.place,

@@ -8,6 +8,7 @@ use mathlib.Core.List.{List}
 use Prim.Native.Nat.{ℕ, ◌+◌, ◌-◌, ◌%◌, ◌<◌}
 use native.Mathlib.Omega.{arith}
 use lib.ListN.{length}
+use Rattle.std.proofs.Common.{Result, Ok, Err}
 use Rattle.bits.specs.Rows.{number}
 use Rattle.bits.specs.declared.Run.{Run}
 use Rattle.refusals.specs.declared.Refusal.{Refusal}
@@ -15,17 +16,15 @@ use Rattle.reading.specs.Scan.{Verdict, right, wrong, shown, onward, scanned}
 use Rattle.reading.specs.declared.Reading.{Reading}
 use Rattle.scanning.specs.Steps.{holding, Stopped}
 use Rattle.scanning.specs.declared.seen.Seen.{Seen}
-use Rattle.scanning.specs.declared.seen.Step.{Step}
-use Rattle.scanning.specs.declared.seen.Step.TheVariants.{Next, Refused}
 use Rattle.scanning.proofs.Positions.{start_of, end_of}
 use Rattle.scanning.proofs.Passing.{rest}
 use Rattle.scanning.proofs.Keeping.{bytes, pending, Told, Formed, Between, Within}
 use Rattle.scanning.proofs.Registers.{Registers, in-header, in-data, in-crc, behind}
 
 -- what the end of row f leads to, with this form behind it
-abbrev pub Ends : Reading → List ℕ → ℕ → Bool → Run → List ℕ → Step → Type 0
-Ends reading line f long run frame (Next next) = Between reading line (f + 1) long next run frame
-Ends reading line f long run frame (Refused refusal) = Stopped (scanned reading line) refusal
+abbrev pub Ends : Reading → List ℕ → ℕ → Bool → Run → List ℕ → Result Seen Refusal → Type 0
+Ends reading line f long run frame (Ok next) = Between reading line (f + 1) long next run frame
+Ends reading line f long run frame (Err refusal) = Stopped (scanned reading line) refusal
 
 -- the registers do not change where no part ends
 pub passed_on : {f header field n : ℕ} {frame : List ℕ} → (f ≡ 4 → ⊥) → (f ≡ 5 → ⊥) → (f ≡ 6 → ⊥) → Registers f header field n frame
@@ -52,7 +51,7 @@ module _ {reading : Reading} {line : List ℕ} {f : ℕ} {long : Bool} {seen : S
   -- or this is kept
   pub kept : (to : Bool) (number header field : ℕ) → shown reading run frame (seen.place - 1) ≡ right
       → length frame ≡ start_of (f + 1) to (header % 16) → (1 < f + 1 → Formed to frame) → Registers (f + 1) header field number frame
-      → Ends reading line f to run frame (Next (holding number header field seen))
+      → Ends reading line f to run frame (Ok (holding number header field seen))
   kept to number header field e at formed registers =
       record {
         leads = ended right e;

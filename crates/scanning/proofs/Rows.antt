@@ -1,7 +1,7 @@
 -- What may stand in the rows that the code reads a frame by. Assumes nothing.
+--     most_of    the greatest bit that may stand in each, as the code has them
 --     most_at, most-bit    the greatest bit that may stand in row f, as the code has it, is at most 1
 --     most-slot, slot-bit    and in the ACK slot the reading's, which is at most 1 too
---     reading_of, reading-told    from which the reading can be told
 --     must-field          up to the CRC either may stand next where a 1 may, else a 0 must
 --     must-slot           in the ACK slot either
 --     must-one            behind the CRC elsewhere a 1 must
@@ -12,7 +12,7 @@ use Prim.Native.Nat.{ℕ, zero, suc, ◌+◌, ◌-◌, ◌*◌, ◌≤◌, ◌<�
 use native.Mathlib.Nat.{zero-add}
 use native.Mathlib.Omega.{arith}
 use lib.Dec.{eqb, leb, ltb, T}
-use lib.ListN.{length, get_or, replicate, length-replicate, get_or-replicate, get_or-append}
+use lib.ListN.{length, get_or, replicate, length-replicate, get_or-replicate, get_or-append, set}
 use lib.Seq.{get_or-append-add, get_or-set_other}
 use borrow.Author.Tests.{lt-ltb, le-ltb, eq-eqb, ne_eqb, eqb-true, eqb-false, leb-true}
 use mir.Facts.{and_yes}
@@ -23,9 +23,15 @@ use Rattle.reading.specs.declared.AckSlot.{AckSlot}
 use Rattle.reading.specs.declared.AckSlot.TheVariants.{Acknowledged, Either}
 use Rattle.reading.specs.declared.Reading.{Reading}
 use Rattle.reading.proofs.Partial.{must-early, must-header}
-use Rattle.scanning.specs.Steps.{widths_of, most_list, most_of}
-use Rattle.scanning.proofs.Positions.{before, start_of, end_of, end_is}
+use Rattle.scanning.proofs.Positions.{widths_of, before, start_of, end_of, end_is}
 use Rattle.scanning.proofs.Known.{Known, early, in-header, all_known, how-known}
+
+abbrev pub most_list : List ℕ
+most_list = 0 ∷ 1 ∷ 1 ∷ 0 ∷ 1 ∷ 1 ∷ 1 ∷ 1 ∷ 1 ∷ 1 ∷ []
+
+-- in the ACK slot the reading says which
+unfoldable pub most_of : Reading → List ℕ
+most_of reading = set most_list 8 (slot_most reading.slot)
 
 -- the greatest bit that may stand in row f
 abbrev pub most_at : Reading → ℕ → ℕ
@@ -70,7 +76,7 @@ row-test f =
     leb most 1 && cond (ltb 6 f) (eqb (must_at f) (cond (eqb f 8) either 1)) (eqb (must_at f) (2 * most))
 
 row-tested : T (everywhere row-test 10)
-unfolding row-test most_list must_list
+unfolding row-test must_list
 row-tested = tt
 
 told : (t : Bool) → T t → t ≡ true
@@ -96,7 +102,7 @@ module _ (f : ℕ) (h : f < 10) where
 -- ---- with the reading's in the ACK slot
 
 pub most-slot : (reading : Reading) → most_at reading 8 ≡ slot_most reading.slot
-unfolding most_of most_list
+unfolding most_of
 most-slot reading = refl
 
 pub slot-bit : (slot : AckSlot) → slot_most slot ≤ 1
@@ -106,18 +112,6 @@ slot-bit Either = omega arith
 most-row : (reading : Reading) (f : ℕ) → (f ≡ 8 → ⊥) → most_at reading f ≡ get_or most_list f 0
 unfolding most_of
 most-row reading f n = get_or-set_other most_list 8 f (slot_most reading.slot) 0 n
-
--- the reading for which such rows were made
-unfoldable pub reading_of : List ℕ → Reading
-reading_of most = record { slot = cond (eqb (get_or most 8 0) 0) Acknowledged Either }
-
-pub reading-told : (reading : Reading) (most : List ℕ) → most ≡ most_of reading → reading_of most ≡ reading
-unfolding reading_of most_of most_list
-reading-told reading most e = ap reading_of e ∙ ap (λ (slot : AckSlot). record { slot = slot }) (back reading.slot)
-  where
-    back : (slot : AckSlot) → cond (eqb (slot_most slot) 0) Acknowledged Either ≡ slot
-    back Acknowledged = refl
-    back Either = refl
 
 pub most-bit : (reading : Reading) (f : ℕ) → f < 10 → most_at reading f ≤ 1
 most-bit reading f h = go (eqb f 8) refl

@@ -1,122 +1,103 @@
 // One bit of a field.
-ghost use Rattle.std.specs.Prelude.{◌≡◌, ◌+◌, ◌≤◌, ◌<◌, ◌^◌, length};
-ghost use Rattle.scanning.specs.Steps.{above, behind_bit, behind_ending, field_bit, slot_bit, one_bit, delimiter_bit, ending_bit, line_bit};
+ghost use Rattle.std.specs.Prelude.{◌≡◌, ◌≤◌};
+ghost use Rattle.scanning.specs.Steps.{above, field_bit, slot_bit, one_bit, delimiter_bit, stuffed_bit, line_bit};
 
-use crate::seen::{Seen, Step};
-use crate::{fields, stuffing};
+use crate::fields::Rule;
+use crate::reader::Reader;
+use crate::seen::Seen;
 use refusals::Refusal;
 
-// Reads the next bit of the field numbered `field`, in which `most` is the greatest bit that may stand; and the stuff bit before it
-// where one is due.
-pub(crate) fn next(line: &[u8], field: usize, most: u8, seen: Seen) -> Step
-    requires { (seen.place < length line.now) × (seen.end < 2 ^ 63 + 256) × (seen.number < 2 ^ 63) × (most ≤ 1) }
-    ensures { result ≡ line_bit field most line.now seen }
-{
-    if fields::CRC < field {
-        return ending(line, field, most, seen);
+impl<'a> Reader<'a> {
+    // Reads the next bit of a field with this rule, in which `most` is the greatest bit that may stand; and the stuff bit before it where
+    // one is due. `most` is asked for as a number, here and below: as a type of its own it would be made, and taken apart, at every call.
+    pub(crate) fn next(self, rule: Rule, most: u8) -> Result<Seen, Refusal>
+        requires { most ≤ 1 }
+        ensures { result ≡ line_bit rule most self.entry.line.now self.entry.seen }
+    {
+        match rule {
+            Rule::Stuffed => self.stuffed(most),
+            Rule::Delimiter => self.delimiter(),
+            Rule::Slot => self.slot(most),
+            Rule::One => self.one(),
+        }
     }
-    // The raw bits behind a stuff bit: it and, before it, a bit of the other value.
-    match stuffing::pass(line, 1 + seen.raw % 2, seen) {
-        Step::Next(next) => field_bit(line, most, next),
-        Step::Refused(refusal) => Step::Refused(refusal),
-    }
-}
 
-// A bit behind the CRC: but for the ACK slot, each must be 1.
-fn ending(line: &[u8], field: usize, most: u8, seen: Seen) -> Step
-    requires { (seen.place < length line.now) × (seen.end < 2 ^ 63 + 256) }
-    ensures { result ≡ ending_bit field most line.now seen }
-{
-    if field == fields::ACK_SLOT {
-        return slot(line, most, seen);
+    // A bit up to the CRC, and the stuff bit before it.
+    fn stuffed(self, most: u8) -> Result<Seen, Refusal>
+        requires { most ≤ 1 }
+        ensures { result ≡ stuffed_bit most self.entry.line.now self.entry.seen }
+    {
+        // The raw bits behind a stuff bit: it and, before it, a bit of the other value.
+        let raw = 1 + self.seen.raw % 2;
+        match self.pass(raw) {
+            Ok(next) => next.field_bit(most),
+            // `?` calls std, whose code `Linked` cannot show.
+            Err(refusal) => Err(refusal),
+        }
     }
-    if field == fields::CRC_DELIMITER {
-        return delimiter(line, seen);
-    }
-    one(line, seen)
-}
 
-// The CRC delimiter, before which a stuff bit may stand; behind it nothing asks for the raw bits any more.
-fn delimiter(line: &[u8], seen: Seen) -> Step
-    requires { (seen.place < length line.now) × (seen.end < 2 ^ 63 + 256) }
-    ensures { result ≡ delimiter_bit line.now seen }
-{
-    match stuffing::pass(line, seen.raw, seen) {
-        Step::Next(next) => one(line, next),
-        Step::Refused(refusal) => Step::Refused(refusal),
+    // The CRC delimiter, before which a stuff bit may stand; behind it nothing asks for the raw bits any more. One function for this and
+    // `stuffed` would be handed the raw bits and how the bit is read, and little would be left of either.
+    fn delimiter(self) -> Result<Seen, Refusal>
+        ensures { result ≡ delimiter_bit self.entry.line.now self.entry.seen }
+    {
+        let raw = self.seen.raw;
+        match self.pass(raw) {
+            Ok(next) => next.one(),
+            // `?` calls std, whose code `Linked` cannot show.
+            Err(refusal) => Err(refusal),
+        }
     }
-}
 
-// A bit up to the CRC; a 1 where only a 0 may stand is a fixed bit that is wrong.
-fn field_bit(line: &[u8], most: u8, seen: Seen) -> Step
-    requires { (seen.place < length line.now) × (seen.number < 2 ^ 63) × (most ≤ 1) }
-    ensures { result ≡ field_bit most line.now seen }
-{
-    let place = seen.place;
-    let bit = line[place];
-    if most < bit {
-        return above(bit, Refusal::FixedBit(place), place);
+    // A bit up to the CRC; a 1 where only a 0 may stand is a fixed bit that is wrong.
+    #[tactic(auto, using(std::proofs::lemmas::Bool::Decides::nat_tests), unfolding(crate::specs::Steps::bit_at_most))]
+    fn field_bit(self, most: u8) -> Result<Seen, Refusal>
+        requires { most ≤ 1 }
+        ensures { result ≡ field_bit most self.entry.line.now self.entry.seen }
+    {
+        let place = self.seen.place;
+        let bit = self.line[place];
+        if most < bit {
+            return above(bit, Refusal::FixedBit(place), place);
+        }
+        Ok(self.behind(bit as u64))
     }
-    Step::Next(behind(bit as u64, seen))
-}
 
-// The ACK slot; a 1 where only a 0 may stand: nobody heard the frame.
-fn slot(line: &[u8], most: u8, seen: Seen) -> Step
-    requires { seen.place < length line.now }
-    ensures { result ≡ slot_bit most line.now seen }
-{
-    let place = seen.place;
-    let ack = line[place];
-    if most < ack {
-        return above(ack, Refusal::NotAcknowledged(place), place);
+    // The ACK slot; a 1 where only a 0 may stand: nobody heard the frame. Its refusal and what is seen behind it are others than those of
+    // `field_bit`: in one function both would have to be handed in.
+    #[tactic(auto, using(std::proofs::lemmas::Bool::Decides::nat_tests), unfolding(crate::specs::Steps::bit_at_most))]
+    fn slot(self, most: u8) -> Result<Seen, Refusal>
+        ensures { result ≡ slot_bit most self.entry.line.now self.entry.seen }
+    {
+        let place = self.seen.place;
+        let ack = self.line[place];
+        if most < ack {
+            return above(ack, Refusal::NotAcknowledged(place), place);
+        }
+        Ok(self.further())
     }
-    Step::Next(further(seen))
+
+    // A delimiter or an end bit.
+    #[tactic(auto, using(std::proofs::lemmas::Bool::Decides::nat_tests), unfolding(crate::specs::Steps::one_bit))]
+    fn one(self) -> Result<Seen, Refusal>
+        ensures { result ≡ one_bit self.entry.line.now self.entry.seen }
+    {
+        let place = self.seen.place;
+        match self.line[place] {
+            0 => Err(Refusal::FixedBit(place)),
+            1 => Ok(self.further()),
+            _ => Err(Refusal::LineByte(place)),
+        }
+    }
 }
 
 // A byte that is more than may stand at its place: a 1 is refused so, a greater one is no bit.
-fn above(byte: u8, refusal: Refusal, place: usize) -> Step
+#[tactic(auto, using(std::proofs::lemmas::Bool::Decides::nat_tests), unfolding(crate::specs::Steps::above))]
+fn above(byte: u8, refusal: Refusal, place: usize) -> Result<Seen, Refusal>
     ensures { result ≡ above byte refusal place }
 {
     if byte == 1 {
-        return Step::Refused(refusal);
+        return Err(refusal);
     }
-    Step::Refused(Refusal::LineByte(place))
-}
-
-// A delimiter or an end bit.
-fn one(line: &[u8], seen: Seen) -> Step
-    requires { seen.place < length line.now }
-    ensures { result ≡ one_bit line.now seen }
-{
-    let place = seen.place;
-    let bit = line[place];
-    if bit == 1 {
-        return Step::Next(further(seen));
-    }
-    if bit == 0 {
-        return Step::Refused(Refusal::FixedBit(place));
-    }
-    Step::Refused(Refusal::LineByte(place))
-}
-
-// One place further on.
-fn further(seen: Seen) -> Seen
-    requires { seen.place < 2 ^ 63 }
-    ensures { result ≡ behind_ending seen }
-{
-    let mut next = seen;
-    next.place = seen.place + 1;
-    next
-}
-
-// What is seen behind a bit that is right, up to the CRC.
-fn behind(bit: u64, seen: Seen) -> Seen
-    requires { (bit ≤ 1) × (seen.place < 2 ^ 63) × (seen.number < 2 ^ 63) }
-    ensures { result ≡ behind_bit bit seen }
-{
-    let mut next = seen;
-    next.place = seen.place + 1;
-    next.raw = (seen.raw << 1) + bit;
-    next.number = seen.number * 2 + bit;
-    next
+    Err(Refusal::LineByte(place))
 }

@@ -1,75 +1,68 @@
 // What a field shows once its last bit is read.
-ghost use Rattle.std.specs.Prelude.{◌≡◌, ◌*◌, ◌%◌, ◌≤◌, ◌<◌, set};
-ghost use Rattle.scanning.specs.Steps.{twice, form_read, form_widths, header_end, header_widths, header_read, field_read, crc_read, part_end, part_widths, field_end, widths_end};
+ghost use Rattle.std.specs.Prelude.{◌≡◌, ◌*◌, ◌%◌, ◌≤◌, ◌<◌};
+ghost use Rattle.scanning.specs.Rows.{with_width};
+ghost use Rattle.scanning.specs.Steps.{twice, form_read, form_fields, header_read, field_read, crc_read, last_told, fields_told, field_end, fields_end};
 
-use crate::fields;
-use crate::seen::{Seen, Step};
+use crate::fields::{DATA, FIXED_BITS, Field, LOW_BITS, Last};
+use crate::seen::Seen;
 use refusals::Refusal;
 
-// Refused with 11 where the line ends within the field; behind IDE with 13, at the place of RTR or SRR; behind the DLC with 3 and behind the
-// CRC with 12, each at its last bit.
-pub(crate) fn judge(widths: &mut [u8; 10], field: usize, seen: Seen) -> Step
-    requires { (0 < seen.end) × (field ≡ 1 → 3 ≤ seen.end) }
-    ensures answer { result ≡ field_end field seen }
-    ensures memory { widths.new ≡ widths_end field seen widths.old }
+// Refused with 11 where the line ends within the field; behind IDE with 13, at the place of RTR or SRR; behind the DLC with 3 and behind
+// the CRC with 12, each at its last bit. That a bit was read is asked here, and not kept by Seen, which begins at place 0.
+//
+// The fields stand beside what is seen: they are changed where they are, and a new `seen` is given.
+#[tactic(auto, using(std::proofs::lemmas::Bool::Decides::nat_tests), unfolding(crate::specs::Steps::field_end, crate::specs::Steps::fields_end))]
+pub(crate) fn judge(fields: &mut [Field; 10], last: Last, seen: Seen) -> Result<Seen, Refusal>
+    requires { (0 < seen.end) × (last ≡ Last.Form → 3 ≤ seen.end) }
+    ensures answer { result ≡ field_end last seen }
+    ensures memory { fields.new ≡ fields_end last seen fields.old }
 {
     if seen.place < seen.end {
-        return Step::Refused(Refusal::LineLength(seen.place));
+        return Err(Refusal::LineLength(seen.place));
     }
-    part(widths, field, seen)
+    // Most fields tell nothing: with that asked for by itself, before the others, reading the empty payload in the long form meets its bar.
+    if matches!(last, Last::Nothing) {
+        return Ok(seen);
+    }
+    told(fields, last, seen)
 }
 
-// IDE tells the form; DLC, data and CRC are each the last of a part.
-fn part(widths: &mut [u8; 10], field: usize, seen: Seen) -> Step
-    requires { (0 < seen.place) × (field ≡ 1 → 3 ≤ seen.place) }
-    ensures answer { result ≡ part_end field seen }
-    ensures memory { widths.new ≡ part_widths field seen widths.old }
+// What its last bit tells.
+fn told(fields: &mut [Field; 10], last: Last, seen: Seen) -> Result<Seen, Refusal>
+    requires { (0 < seen.place) × (last ≡ Last.Form → 3 ≤ seen.place) }
+    ensures answer { result ≡ last_told last seen }
+    ensures memory { fields.new ≡ fields_told last seen fields.old }
 {
-    if field < fields::DLC {
-        return header_field(widths, field, seen);
+    match last {
+        Last::Nothing => Ok(seen),
+        Last::Form => form(fields, seen),
+        Last::Header => header(fields, seen),
+        Last::Data => data(seen),
+        Last::Check => check(seen),
     }
-    if field == fields::CRC {
-        return check(seen);
-    }
-    if fields::CRC < field {
-        return Step::Next(seen);
-    }
-    if field == fields::DLC {
-        return header(widths, seen);
-    }
-    data(seen)
-}
-
-fn header_field(widths: &mut [u8; 10], field: usize, seen: Seen) -> Step
-    requires { (0 < seen.place) × (field ≡ 1 → 3 ≤ seen.place) }
-    ensures answer { result ≡ header_end field seen }
-    ensures memory { widths.new ≡ header_widths field seen widths.old }
-{
-    if field == fields::IDE {
-        return form(widths, seen);
-    }
-    Step::Next(seen)
 }
 
 // The bit before IDE must be the same. If it is not, IDE starts a run, or a stuff bit between the two does.
-fn form(widths: &mut [u8; 10], seen: Seen) -> Step
+#[tactic(auto, using(std::proofs::lemmas::Bool::Decides::nat_tests), unfolding(crate::specs::Steps::form_read))]
+fn form(fields: &mut [Field; 10], seen: Seen) -> Result<Seen, Refusal>
     requires { 3 ≤ seen.place }
     ensures answer { result ≡ form_read seen }
-    ensures memory { widths.new ≡ form_widths seen widths.old }
+    ensures memory { fields.new ≡ form_fields seen fields.old }
 {
     let ide = (seen.number % 2) as u8;
-    widths[fields::LOW_BITS] = 18 * ide;
-    widths[fields::FIXED_BITS] = 1 + 2 * ide;
+    fields[LOW_BITS].width = 18 * ide;
+    fields[FIXED_BITS].width = 1 + 2 * ide;
     if twice(seen.number) {
-        return Step::Next(seen);
+        return Ok(seen);
     }
     if twice(seen.raw) {
-        return Step::Refused(Refusal::FixedBit(seen.place - 3));
+        return Err(Refusal::FixedBit(seen.place - 3));
     }
-    Step::Refused(Refusal::FixedBit(seen.place - 2))
+    Err(Refusal::FixedBit(seen.place - 2))
 }
 
 // Whether the last two bits of a number are the same.
+#[tactic(auto, using(std::proofs::lemmas::Bool::Decides::nat_tests), unfolding(crate::specs::Steps::twice))]
 fn twice(number: u64) -> bool
     ensures { result ≡ twice number }
 {
@@ -78,41 +71,45 @@ fn twice(number: u64) -> bool
 }
 
 // The DLC tells how many bits the data have.
-fn header(widths: &mut [u8; 10], seen: Seen) -> Step
+#[tactic(auto, using(std::proofs::lemmas::Bool::Decides::nat_tests), unfolding(crate::specs::Steps::header_read))]
+fn header(fields: &mut [Field; 10], seen: Seen) -> Result<Seen, Refusal>
     requires { 0 < seen.place }
     ensures answer { result ≡ header_read seen }
-    ensures memory { widths.new ≡ set widths.old 5 (8 * (seen.number % 16)) }
+    ensures memory { fields.new ≡ with_width 5 (8 * (seen.number % 16)) fields.old }
 {
     let n = seen.number % 16;
-    widths[fields::DATA] = (8 * n) as u8;
-    if n == 1 {
-        return Step::Refused(Refusal::FieldLength(seen.place - 1));
+    fields[DATA].width = (8 * n) as u8;
+    if n == 1 || 8 < n {
+        return Err(Refusal::FieldLength(seen.place - 1));
     }
-    if 8 < n {
-        return Step::Refused(Refusal::FieldLength(seen.place - 1));
-    }
-    let mut next = seen;
-    next.header = next.number;
-    next.number = 0;
-    Step::Next(next)
+    Ok(Seen {
+        number: 0,
+        header: seen.number,
+        ..seen
+    })
 }
 
-fn data(seen: Seen) -> Step
+// The data field is kept, and the CRC's bits begin a number of their own. As where `header` ends, but another field of Seen is set: which
+// one cannot be handed in.
+#[tactic(auto, unfolding(crate::specs::Steps::field_read))]
+fn data(seen: Seen) -> Result<Seen, Refusal>
     ensures { result ≡ field_read seen }
 {
-    let mut next = seen;
-    next.field = next.number;
-    next.number = 0;
-    Step::Next(next)
+    Ok(Seen {
+        number: 0,
+        field: seen.number,
+        ..seen
+    })
 }
 
 // The CRC must be that of the header and the data field.
-fn check(seen: Seen) -> Step
+#[tactic(auto, using(std::proofs::lemmas::Bool::Decides::nat_tests), unfolding(crate::specs::Steps::crc_read))]
+fn check(seen: Seen) -> Result<Seen, Refusal>
     requires { 0 < seen.place }
     ensures { result ≡ crc_read seen }
 {
     if seen.number == crc::of_frame(seen.header, seen.field) {
-        return Step::Next(seen);
+        return Ok(seen);
     }
-    Step::Refused(Refusal::Crc(seen.place - 1))
+    Err(Refusal::Crc(seen.place - 1))
 }

@@ -10,37 +10,38 @@ mod field_end;
 mod fields;
 mod header;
 mod places;
+mod reader;
 mod seen;
 mod stuffing;
 mod walk;
 
+use field::encoding::Coded;
 use reading::Reading;
 use refusals::Refusal;
-use seen::Step;
 use wire::Identifier;
 
-// What the frame of a line holds: an identifier and n data bytes, whose bits are the lowest of `field`; or a refusal. [12.1, 12.15]
+// What the frame of a line holds: an identifier, and a data field as one number. [12.1, 12.15]
+// Derives that call std would have the calls of this crate linked one by one: three must-fail edits then fall at `Linked`, not at a fact.
 #[derive(Clone, Copy)]
-pub enum Held {
-    Frame {
-        n: usize,
-        identifier: Identifier,
-        field: u64,
-    },
-    Refused(Refusal),
+pub struct Held {
+    pub identifier: Identifier,
+    pub field: Coded,
 }
 
 // Scans a line, a byte 0 or 1 for each bit, from its first bit on. Refused with 3, 9 to 13 and, where the reading asks for a 0 in the
 // ACK slot, 20, at the first problem met.
-pub fn scan(line: &[u8], reading: Reading) -> Held
+pub fn scan(line: &[u8], reading: Reading) -> Result<Held, Refusal>
     ensures { result ≡ held_in (scanned reading line.now) }
 {
     match walk::along(line, reading) {
-        Step::Next(seen) => Held::Frame {
-            n: (seen.header % 16) as usize,
+        Ok(seen) => Ok(Held {
             identifier: header::identifier(seen.header),
-            field: seen.field,
-        },
-        Step::Refused(refusal) => Held::Refused(refusal),
+            field: Coded {
+                n: (seen.header % 16) as usize,
+                number: seen.field,
+            },
+        }),
+        // `?` calls std, whose code `Linked` cannot show.
+        Err(refusal) => Err(refusal),
     }
 }

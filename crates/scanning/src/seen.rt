@@ -1,7 +1,5 @@
-// What is kept of a line while it is read.
-use refusals::Refusal;
-
-// A refusal takes the room of `stop` and `end` in a Step: they stand first because nothing behind a field asks for them.
+// What is kept of a line while it is read. `stop` and `end` come first, where a refusal lies in a Result: each field sets them anew, so
+// that reading takes fewer instructions than with others there.
 #[derive(Clone, Copy)]
 pub(crate) struct Seen {
     // Where reading stops in the present field: at its end, or at the line's where that comes first.
@@ -17,13 +15,6 @@ pub(crate) struct Seen {
     // The header and the data field, once they are read.
     pub header: u64,
     pub field: u64,
-}
-
-// What is seen behind a bit, a field or the whole line; or the first problem met.
-#[derive(Clone, Copy)]
-pub(crate) enum Step {
-    Next(Seen),
-    Refused(Refusal),
 }
 
 // No run reaches in from before the start of frame, which must be 0: before it stands a 1.

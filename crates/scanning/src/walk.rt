@@ -3,46 +3,42 @@ ghost use Rattle.std.specs.Prelude.{◌<◌};
 ghost use Rattle.reading.specs.Scan.{scanned};
 ghost use Rattle.scanning.specs.Steps.{Reads};
 
-use crate::seen::Step;
-use crate::{bit, field_end, fields, places, seen};
+use crate::reader::Reader;
+use crate::seen::Seen;
+use crate::{field_end, fields, places, seen};
 use reading::Reading;
 use refusals::Refusal;
 
 // What is seen of the whole line, field by field and bit by bit.
-pub(crate) fn along(line: &[u8], reading: Reading) -> Step
+pub(crate) fn along(line: &[u8], reading: Reading) -> Result<Seen, Refusal>
     ensures { Reads result (scanned reading line.now) }
 {
-    let mut widths = fields::widths();
-    let most = fields::most(reading);
+    let mut fields = fields::of(reading);
     let mut seen = seen::NOTHING;
-    let mut i = 0;
-    'line: loop {
-        if i == fields::COUNT {
-            if seen.place < line.len() {
-                break 'line Step::Refused(Refusal::LineLength(seen.place));
+    // Left by a label, as document 01 wants it.
+    'line: {
+        // By its place: the fields behind it get their widths as IDE and the DLC are read. And read in place: where it is copied first, or
+        // handed on whole, a call takes some 100 instructions more, and reading the empty payload in the long form misses its bar.
+        for i in 0..fields.len() {
+            seen.end = seen.place + fields[i].width as usize;
+            seen.stop = places::least(seen.end, line.len());
+            // No `for`: a bit takes the stuff bit before it along, and puts the stop further off.
+            while seen.place < seen.stop {
+                let reader = Reader { line, seen };
+                seen = match reader.next(fields[i].rule, fields[i].most) {
+                    Ok(next) => next,
+                    Err(refusal) => break 'line Err(refusal),
+                };
             }
-            break 'line Step::Next(seen);
+            let last = fields[i].last;
+            seen = match field_end::judge(&mut fields, last, seen) {
+                Ok(next) => next,
+                Err(refusal) => break 'line Err(refusal),
+            };
         }
-        seen.end = seen.place + widths[i] as usize;
-        seen.stop = places::least(seen.end, line.len());
-        while seen.place < seen.stop {
-            match bit::next(line, i, most[i], seen) {
-                Step::Next(next) => {
-                    seen = next;
-                }
-                Step::Refused(refusal) => {
-                    break 'line Step::Refused(refusal);
-                }
-            }
+        if seen.place < line.len() {
+            break 'line Err(Refusal::LineLength(seen.place));
         }
-        match field_end::judge(&mut widths, i, seen) {
-            Step::Next(next) => {
-                seen = next;
-            }
-            Step::Refused(refusal) => {
-                break 'line Step::Refused(refusal);
-            }
-        }
-        i += 1;
+        Ok(seen)
     }
 }
