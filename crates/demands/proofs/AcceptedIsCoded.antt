@@ -13,11 +13,11 @@ use Prim.Native.Nat.{ℕ, ◌-◌, ◌≤◌}
 use native.Mathlib.Omega.{arith}
 use contract.Lifetimes.{Lfts}
 use lib.ListN.{length, take, drop, length-set}
+use Rattle.std.proofs.Common.{Result, Ok}
 use Rattle.bits.specs.Below.{Below}
+use Rattle.refusals.specs.declared.Refusal.{Refusal}
 use Rattle.refusals.specs.Table.{given, answer_numbers}
 use Rattle.refusals.specs.After.{after}
-use Rattle.refusals.specs.declared.Answer.{Answer}
-use Rattle.refusals.specs.declared.Answer.TheVariants.{Length}
 use Rattle.refusals.proofs.After.{accepted-result}
 use Rattle.field.specs.Sizes.{field_bytes}
 use Rattle.field.specs.Field.{field_of}
@@ -29,9 +29,8 @@ use Rattle.wire.specs.Identifier.{Allowed, room_for, identifier_of}
 use Rattle.wire.specs.Answers.{payload_line}
 use Rattle.line.specs.Ack.{with_ack}
 use Rattle.reading.specs.declared.Reading.{Reading}
-use Rattle.line.specs.Read.{acknowledged, own, read_answer, payload_in, line_numbers}
-use Rattle.line.specs.declared.Line.{Line}
-use Rattle.line.specs.declared.Line.TheVariants.{Frame}
+use Rattle.line.specs.Read.{acknowledged, own, read_answer, payload_in, line_numbers, framed}
+use Rattle.line.specs.declared.Frame.{Frame}
 use Rattle.line.proofs.RoundTrip.{Coded, accepted-is-coded, coded-apart}
 use Rattle.prushgoli.specs.Packing.{told}
 use Rattle.prushgoli.proofs.prushgoli_encode.Reads as encode
@@ -58,7 +57,7 @@ module _ (κs : Lfts 2) (i : _) (a : ℕ) (s : _) (allowed : decode.Learnt κs i
   abbrev payload : List ℕ
   payload = take (told a).low s.1.0.now
 
-  answered : decode_answer field (length i.1.0.now) ≡ Length (told a).low
+  answered : decode_answer field (length i.1.0.now) ≡ Ok (told a).low
   answered = none_told a (decode-told κs i a s allowed) accepted
 
   back : (field_of (payload_of field) ≡ field) × (length (payload_of field) ≡ (told a).low) × ((told a).low ≤ 7) × Below 256 (payload_of field)
@@ -66,7 +65,7 @@ module _ (κs : Lfts 2) (i : _) (a : ℕ) (s : _) (allowed : decode.Learnt κs i
 
   left : payload ≡ payload_of field
   left =
-      ap (take (told a).low) (allowed.1 ∙ ap (λ (x : Answer). after (answer_numbers x) (payload_of field) i.1.0.now) answered)
+      ap (take (told a).low) (allowed.1 ∙ ap (λ (x : Result ℕ Refusal). after (answer_numbers x) (payload_of field) i.1.0.now) answered)
       ∙ taken (told a).low 0 (payload_of field) i.1.0.now back.1
 
   pub field-coded : (field ≡ field_of payload) × (length payload ≡ (told a).low) × ((told a).low ≤ 7) × Below 256 payload
@@ -100,7 +99,7 @@ module _ (reading : Reading) (line old after-it : List ℕ) (a : ℕ) (numbers :
   abbrev identifier : Identifier
   identifier = identifier_of (told a).high
 
-  answered-line : read_answer reading line (length old) ≡ Frame (told a).low identifier
+  answered-line : read_answer reading line (length old) ≡ framed (told a).low identifier
   answered-line = frame-told reading line (length old) a numbers accepted
 
   coded : Coded reading line (length old) identifier (told a).low
@@ -108,7 +107,7 @@ module _ (reading : Reading) (line old after-it : List ℕ) (a : ℕ) (numbers :
 
   left-line : read ≡ payload_in reading line
   left-line =
-      ap (take (told a).low) (leaves ∙ ap (λ (x : Line). after (line_numbers x) (payload_in reading line) old) answered-line)
+      ap (take (told a).low) (leaves ∙ ap (λ (x : Result Frame Refusal). after (line_numbers x) (payload_in reading line) old) answered-line)
       ∙ taken (told a).low (told a).high (payload_in reading line) old coded.length-is
 
   -- what is said of each reading alike

@@ -12,11 +12,12 @@ use native.Mathlib.Omega.{arith}
 use lib.ListN.{length}
 use Rattle.bits.specs.Rows.{number}
 use Rattle.bits.specs.Packing.{unpacked}
+use Rattle.std.proofs.Common.{Result, Ok, Err}
+use Rattle.refusals.specs.declared.Refusal.{Refusal}
 use Rattle.refusals.specs.Table.{Numbers, given, ◌at◌, answer_numbers}
 use Rattle.field.specs.Field.{field_of}
 use Rattle.field.specs.Coded.{coded, coded_numbers, field_from}
 use Rattle.field.specs.declared.encoding.Coded.{Coded}
-use Rattle.field.specs.declared.encoding.Coded.TheVariants as coded
 use Rattle.field.proofs.Coded.{coded-long, coded-short, coded-refused}
 use Rattle.decoding.specs.Decode.{decode_answer}
 use Rattle.decoding.specs.Number.{number_answer}
@@ -25,7 +26,6 @@ use Rattle.reading.specs.Scan.{scanned}
 use Rattle.reading.specs.declared.Reading.{Reading}
 use Rattle.scanning.specs.Held.{held_in, held_numbers}
 use Rattle.scanning.specs.declared.Held.{Held}
-use Rattle.scanning.specs.declared.Held.TheVariants as held
 use Rattle.line.specs.Read.{read_answer, line_numbers}
 use Rattle.line.proofs.FromScan.{from-refused}
 
@@ -33,9 +33,9 @@ module _ (payload : List ℕ) where
   pub code-refused : coded_numbers (coded payload) ≡ (1 at 0) ↔ 7 < length payload
   code-refused = (go (coded payload) refl, λ long. ap coded_numbers (coded-long payload long))
     where
-      go : (c : Coded) → coded payload ≡ c → coded_numbers c ≡ (1 at 0) → 7 < length payload
-      go (coded.Field n v) e one = let none : ◌≡◌ {A = ℕ} 0 1 = ap (λ (x : Numbers). x.refusal) one in absurd (omega arith)
-      go (coded.Refused r) e one = (coded-refused payload r e).0
+      go : (c : Result Coded Refusal) → coded payload ≡ c → coded_numbers c ≡ (1 at 0) → 7 < length payload
+      go (Ok c) e one = let none : ◌≡◌ {A = ℕ} 0 1 = ap (λ (x : Numbers). x.refusal) one in absurd (omega arith)
+      go (Err r) e one = (coded-refused payload r e).0
 
   pub code-given : length payload ≤ 7
       → coded_numbers (coded payload) ≡ given (length (field_of payload)) (number 0 (unpacked 8 (field_of payload)))
@@ -53,6 +53,6 @@ pub scan-passed : (reading : Reading) (line : List ℕ) (room : ℕ) →
     0 < (held_numbers scan).refusal → line_numbers (read_answer reading line room) ≡ held_numbers scan
 scan-passed reading line room = go (held_in (scanned reading line)) refl
   where
-    go : (h : Held) → held_in (scanned reading line) ≡ h → 0 < (held_numbers h).refusal → line_numbers (read_answer reading line room) ≡ held_numbers h
-    go (held.Frame n identifier field) e some = absurd (omega arith)
-    go (held.Refused r) e some = ap line_numbers (from-refused reading line room r e)
+    go : (h : Result Held Refusal) → held_in (scanned reading line) ≡ h → 0 < (held_numbers h).refusal → line_numbers (read_answer reading line room) ≡ held_numbers h
+    go (Ok h) e some = absurd (omega arith)
+    go (Err r) e some = ap line_numbers (from-refused reading line room r e)

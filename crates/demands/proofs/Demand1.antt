@@ -58,6 +58,7 @@ use Rattle.scanning.proofs.scan.Reads as scan
 use Rattle.line.proofs.read.Reads as read
 use Rattle.words.proofs.word_in.Reads as word_in
 use Rattle.words.proofs.entry_in.Reads as entry_in
+use Rattle.words.proofs.carried.Reads as carried
 use Rattle.words.proofs.is_escape.Reads as is-escape
 use Rattle.words.proofs.word_list.list.Reads as word-list
 use Rattle.words.proofs.short_list.list.Reads as short-list
@@ -166,8 +167,10 @@ pub code-settled : (κs : Lfts 1) → Settled (code.Asked κs) (code.Learnt κs)
 code-settled κs = settled (λ i. tt) (λ i a s says. says)
 
 pub decode-number-settled : (κs : Lfts 1)
-    → SettledWith (decode-number.Asked κs) (decode-number.Learnt κs) (λ a. (answer_numbers a).refusal) (λ i. i.1.1.0.now) (λ s. s.1.1.0.now)
-decode-number-settled κs = settled-with (λ i. tt) (λ i a s says. says) (λ i a is refused. some-keeps (payload_of (field_from i.0 i.1.0)) _ (answer_numbers a) refused)
+    → SettledWith (decode-number.Asked κs) (decode-number.Learnt κs) (λ a. (answer_numbers a).refusal) (λ i. i.1.0.now) (λ s. s.1.0.now)
+decode-number-settled κs =
+    settled-with (λ i. tt) (λ i a s says. says)
+    (λ i a is refused. some-keeps (payload_of (field_from i.0.n i.0.number)) _ (answer_numbers a) refused)
 
 pub padding-number-settled : (κs : Lfts 0) → Settled (padding-number.Asked κs) (padding-number.Learnt κs)
 padding-number-settled κs = settled (λ i. tt) (λ i a s says. says)
@@ -192,6 +195,9 @@ word-in-settled κs = settled (λ i. tt) (λ i a s says. says)
 
 pub entry-in-settled : (κs : Lfts 1) → Settled (entry_in.Asked κs) (entry_in.Learnt κs)
 entry-in-settled κs = settled (λ i. tt) (λ i a s says. says)
+
+pub carried-settled : (κs : Lfts 0) → Settled (carried.Asked κs) (carried.Learnt κs)
+carried-settled κs = settled (λ i. tt) (λ i a s says. says)
 
 pub is-escape-settled : (κs : Lfts 0) → Settled (is-escape.Asked κs) (is-escape.Learnt κs)
 is-escape-settled κs = settled (λ i. tt) (λ i a s says. says)

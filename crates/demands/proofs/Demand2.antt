@@ -25,18 +25,18 @@ use Prim.Native.Nat.{ℕ, ◌+◌, ◌≤◌, ◌<◌}
 use native.Mathlib.Omega.{arith}
 use lib.ListN.{length, get_or, take, drop, replicate}
 use lib.Seq.{take_at}
+use Rattle.std.proofs.Common.{Result, Ok, Some, None}
 use Rattle.bits.specs.Below.{Below}
 use Rattle.bits.specs.Rows.{bits}
 use Rattle.bits.specs.Packing.{unpacked}
 use Rattle.bits.specs.Neighbours.{equal_neighbours}
 use Rattle.bits.specs.Stuffing.{nothing_sent, stuffed}
+use Rattle.refusals.specs.declared.Refusal.{Refusal}
 use Rattle.refusals.specs.Table.{answer_numbers}
 use Rattle.refusals.specs.After.{after}
-use Rattle.refusals.specs.declared.Answer.{Answer}
-use Rattle.refusals.specs.declared.Answer.TheVariants.{Length}
 use Rattle.words.specs.Words.{keeps_rule, words, word_of}
-use Rattle.words.specs.Symbols.{place_in, symbol_of}
-use Rattle.words.specs.declared.Symbol.TheVariants.{Byte, Escape, Nothing}
+use Rattle.words.specs.Symbols.{place_in, symbol_of, byte}
+use Rattle.words.specs.declared.Symbol.TheVariants.{Escape}
 use Rattle.words.proofs.Words.{words-258, J-is, K-is, words-keep-rule, words-rise}
 use Rattle.words.proofs.Symbols.{word_back, word-only, nothing-exactly}
 use Rattle.field.specs.Sizes.{field_bytes, break_bit, padding_bits}
@@ -57,9 +57,8 @@ use Rattle.wire.proofs.FrameAnswers.{make-accepts}
 use Rattle.reading.specs.Scan.{slot_most}
 use Rattle.reading.specs.declared.Reading.{Reading}
 use Rattle.line.specs.Ack.{with_ack}
-use Rattle.line.specs.Read.{acknowledged, own, read_answer, payload_in, line_numbers}
-use Rattle.line.specs.declared.Line.{Line}
-use Rattle.line.specs.declared.Line.TheVariants.{Frame}
+use Rattle.line.specs.Read.{acknowledged, own, read_answer, payload_in, line_numbers, framed}
+use Rattle.line.specs.declared.Frame.{Frame}
 use Rattle.line.proofs.RoundTrip.{Coded, own-ack, read_made, accepted-is-coded, coded-apart}
 
 -- ---- 8B9B as published, words by the ordering rule
@@ -72,16 +71,16 @@ words-ordered = (words-258, words-keep-rule, words-rise)
 pub escapes :
     (bits 9 (get_or words 0 0) ≡ 0 ∷ 0 ∷ 1 ∷ 0 ∷ 0 ∷ 0 ∷ 0 ∷ 1 ∷ 0 ∷ [])
     × (bits 9 (get_or words 257 0) ≡ 1 ∷ 1 ∷ 0 ∷ 1 ∷ 1 ∷ 1 ∷ 1 ∷ 0 ∷ 1 ∷ [])
-    × (symbol_of (get_or words 0 0) ≡ Escape) × (symbol_of (get_or words 257 0) ≡ Escape)
+    × (symbol_of (get_or words 0 0) ≡ Some Escape) × (symbol_of (get_or words 257 0) ≡ Some Escape)
 unfolding bits equal_neighbours words place_in symbol_of
 escapes = (J-is, K-is, refl, refl)
 
 pub byte-carried : (x : ℕ) → x < 256
-    → (word_of x ≡ get_or words (x + 1) 0) × (symbol_of (word_of x) ≡ Byte x) × ((nine : ℕ) → symbol_of nine ≡ Byte x → nine ≡ word_of x)
+    → (word_of x ≡ get_or words (x + 1) 0) × (symbol_of (word_of x) ≡ byte x) × ((nine : ℕ) → symbol_of nine ≡ byte x → nine ≡ word_of x)
 unfolding word_of
 byte-carried x byte = (refl, word_back x byte, λ nine stands. (word-only nine x stands).0)
 
-pub rule-exactly : (nine : ℕ) → nine < 512 → (symbol_of nine ≡ Nothing) ↔ (keeps_rule (bits 9 nine) ≡ false)
+pub rule-exactly : (nine : ℕ) → nine < 512 → (symbol_of nine ≡ None) ↔ (keeps_rule (bits 9 nine) ≡ false)
 rule-exactly = nothing-exactly
 
 pub field-bits : (payload : List ℕ) → length payload ≤ 7 →
@@ -104,28 +103,28 @@ frame-bits = frame_is
 
 pub field-left : (payload buffer : List ℕ) → length payload ≤ 7 → field_bytes (length payload) ≤ length buffer →
     let n = field_bytes (length payload) in
-    (encode_answer payload (length buffer) ≡ Length n)
+    (encode_answer payload (length buffer) ≡ Ok n)
     × (after (answer_numbers (encode_answer payload (length buffer))) (field_of payload) buffer ≡ field_of payload ++ drop n buffer)
 field-left payload buffer short room =
     let encoded = encode-accepts payload (length buffer) short room in (
       encoded,
-      ap (λ (a : Answer). after (answer_numbers a) (field_of payload) buffer) encoded
+      ap (λ (a : Result ℕ Refusal). after (answer_numbers a) (field_of payload) buffer) encoded
           ∙ ap (λ (k : ℕ). field_of payload ++ drop k buffer) (field-length payload),
     )
 
 pub line-left : (identifier : Identifier) (payload buffer : List ℕ) → Allowed identifier → length payload ≤ 7 → room_for identifier ≤ length buffer →
     let line = payload_line identifier payload in
-    (make_answer identifier payload (length buffer) ≡ Length (length line))
+    (make_answer identifier payload (length buffer) ≡ Ok (length line))
     × (after (answer_numbers (make_answer identifier payload (length buffer))) line buffer ≡ line ++ drop (length line) buffer)
 line-left identifier payload buffer known short room =
     let made = make-accepts identifier payload (length buffer) known short room in
-    (made, ap (λ (a : Answer). after (answer_numbers a) (payload_line identifier payload) buffer) made)
+    (made, ap (λ (a : Result ℕ Refusal). after (answer_numbers a) (payload_line identifier payload) buffer) made)
 
 module _ (payload buffer buffer' : List ℕ) (bytes : Below 256 payload) (short : length payload ≤ 7) (fits : length payload ≤ length buffer') where
   pub field_back : field_bytes (length payload) ≤ length buffer →
       let field = take (field_bytes (length payload)) (after (answer_numbers (encode_answer payload (length buffer))) (field_of payload) buffer) in
       (field ≡ field_of payload)
-      × (decode_answer field (length buffer') ≡ Length (length payload))
+      × (decode_answer field (length buffer') ≡ Ok (length payload))
       × (after (answer_numbers (decode_answer field (length buffer'))) (payload_of field) buffer' ≡ payload ++ drop (length payload) buffer')
   field_back room =
       let n = field_bytes (length payload) in
@@ -133,7 +132,7 @@ module _ (payload buffer buffer' : List ℕ) (bytes : Below 256 payload) (short 
       ∙ take_at (field_of payload) (drop n buffer) n (field-length payload) in
       let decoded = ap (λ (f : List ℕ). decode_answer f (length buffer')) left ∙ decode-encode payload (length buffer') bytes short fits in
       let carried = ap payload_of left ∙ payload-of-field payload bytes short in
-      (left, decoded, ap₂ (λ (a : Answer) (p : List ℕ). after (answer_numbers a) p buffer') decoded carried)
+      (left, decoded, ap₂ (λ (a : Result ℕ Refusal) (p : List ℕ). after (answer_numbers a) p buffer') decoded carried)
 
   -- what the frame's length takes of the buffer that making leaves
   abbrev left-of : Identifier → List ℕ
@@ -150,20 +149,20 @@ module _ (payload buffer buffer' : List ℕ) (bytes : Below 256 payload) (short 
   read_back : (reading : Reading) (identifier : Identifier) (ack : ℕ) → Allowed identifier → ack ≤ slot_most reading.slot
       → room_for identifier ≤ length buffer →
       let line = with_ack ack (left-of identifier) in
-      (read_answer reading line (length buffer') ≡ Frame (length payload) identifier)
+      (read_answer reading line (length buffer') ≡ framed (length payload) identifier)
       × (after (line_numbers (read_answer reading line (length buffer'))) (payload_in reading line) buffer' ≡ payload ++ drop (length payload) buffer')
   read_back reading identifier ack known slot room =
       let left = left_is identifier known room in
       let own = read_made reading identifier payload ack (length buffer') known bytes short fits slot in
       let read = ap (λ (l : List ℕ). read_answer reading (with_ack ack l) (length buffer')) left ∙ own.0 in
       let carried = ap (λ (l : List ℕ). payload_in reading (with_ack ack l)) left ∙ own.1 in
-      (read, ap₂ (λ (a : Line) (p : List ℕ). after (line_numbers a) p buffer') read carried)
+      (read, ap₂ (λ (a : Result Frame Refusal) (p : List ℕ). after (line_numbers a) p buffer') read carried)
 
   pub frame_back : (identifier : Identifier) (ack : ℕ) → Allowed identifier → ack < 2 → room_for identifier ≤ length buffer →
       let made = left-of identifier in
       let line = with_ack ack made in
       (with_ack 1 made ≡ made)
-      × (read_answer own line (length buffer') ≡ Frame (length payload) identifier)
+      × (read_answer own line (length buffer') ≡ framed (length payload) identifier)
       × (after (line_numbers (read_answer own line (length buffer'))) (payload_in own line) buffer' ≡ payload ++ drop (length payload) buffer')
   frame_back identifier ack known slot room =
       let left = left_is identifier known room in
@@ -172,17 +171,17 @@ module _ (payload buffer buffer' : List ℕ) (bytes : Below 256 payload) (short 
 
   pub frame-heard : (identifier : Identifier) → Allowed identifier → room_for identifier ≤ length buffer →
       let line = with_ack 0 (left-of identifier) in
-      (read_answer acknowledged line (length buffer') ≡ Frame (length payload) identifier)
+      (read_answer acknowledged line (length buffer') ≡ framed (length payload) identifier)
       × (after (line_numbers (read_answer acknowledged line (length buffer'))) (payload_in acknowledged line) buffer' ≡ payload ++ drop (length payload) buffer')
   frame-heard identifier known room = read_back acknowledged identifier 0 known (omega arith) room
 
 -- ---- each field or frame accepted is the one that coding gives, the ACK slot apart
 
-pub field-accepted : (field : List ℕ) (room n : ℕ) → Below 256 field → decode_answer field room ≡ Length n
+pub field-accepted : (field : List ℕ) (room n : ℕ) → Below 256 field → decode_answer field room ≡ Ok n
     → (field_of (payload_of field) ≡ field) × (length (payload_of field) ≡ n) × (n ≤ 7) × Below 256 (payload_of field)
 field-accepted = field-of-payload
 
-pub line-accepted : (line : List ℕ) (room : ℕ) (identifier : Identifier) (n : ℕ) → read_answer own line room ≡ Frame n identifier
+pub line-accepted : (line : List ℕ) (room : ℕ) (identifier : Identifier) (n : ℕ) → read_answer own line room ≡ framed n identifier
     → (with_ack 1 line ≡ payload_line identifier (payload_in own line)) × Below 2 line × Allowed identifier
     × (length (payload_in own line) ≡ n) × (n ≤ 7) × Below 256 (payload_in own line)
 line-accepted line room identifier n accepted =

@@ -17,10 +17,10 @@ use mathlib.Core.List.{List}
 use Prim.Native.Nat.{ℕ, ◌+◌, ◌*◌, ◌≤◌}
 use native.Mathlib.Omega.{arith}
 use lib.ListN.{length}
+use Rattle.std.proofs.Common.{Ok}
 use Rattle.bits.specs.Below.{Below}
 use Rattle.bits.specs.Packing.{unpacked}
 use Rattle.bits.proofs.Packing.{unpacked-length}
-use Rattle.refusals.specs.declared.Answer.TheVariants.{Length}
 use Rattle.field.specs.Sizes.{field_bytes}
 use Rattle.field.specs.Field.{field_of}
 use Rattle.field.proofs.FieldBits.{field-length}
@@ -30,8 +30,7 @@ use Rattle.wire.specs.declared.Identifier.TheVariants.{Base, Long}
 use Rattle.wire.specs.Header.{header}
 use Rattle.wire.specs.Line.{line_of, frame_line}
 use Rattle.wire.specs.StuffBits.{after_header, after_data, after_crc, header_stuff_bits}
-use Rattle.wire.specs.Answers.{payload_line, length_answer, bounds_answer}
-use Rattle.wire.specs.declared.Bounds.TheVariants.{Between}
+use Rattle.wire.specs.Answers.{payload_line, length_answer, bounds_answer, between}
 use Rattle.wire.proofs.Identifiers.{base-room, long-room}
 use Rattle.wire.proofs.Demand3 as frame
 use Rattle.wire.proofs.FrameAnswers.{length-accepts}
@@ -73,7 +72,7 @@ module _ (identifier : Identifier) (payload : List ℕ) (bytes : Below 256 paylo
       × ((number : ℕ) → (room_for (Base number) ≡ 116) × (room_for (Long number) ≡ 141))
   room-enough = (frame.room-enough identifier payload bytes short, λ number. (base-room number, long-room number))
 
-  pub length-reported : Allowed identifier → length_answer identifier payload ≡ Length (length (payload_line identifier payload))
+  pub length-reported : Allowed identifier → length_answer identifier payload ≡ Ok (length (payload_line identifier payload))
   length-reported known = length-accepts identifier payload known short
 
 -- the two pairs of bounds
@@ -99,16 +98,16 @@ module _ (number : ℕ) (payload : List ℕ) (bytes : Below 256 payload) (short 
 pub base-reported : (number size : ℕ) → number ≤ 2047 → size ≤ 7 →
     let n = field_bytes size in
     let h = header_stuff_bits (Base number) n in
-    bounds_answer (Base number) size ≡ Between (44 + 8 * n + h) (48 + 8 * n + h)
+    bounds_answer (Base number) size ≡ between (44 + 8 * n + h) (48 + 8 * n + h)
 base-reported = base-bounds
 
 pub long-reported : (number size : ℕ) → number ≤ 536870911 → size ≤ 7 →
     let n = field_bytes size in
     let h = header_stuff_bits (Long number) n in
-    bounds_answer (Long number) size ≡ Between (64 + 8 * n + h) (68 + 8 * n + h)
+    bounds_answer (Long number) size ≡ between (64 + 8 * n + h) (68 + 8 * n + h)
 long-reported = long-bounds
 
 pub bounds-hold : (identifier : Identifier) (payload : List ℕ) (least most k : ℕ) → Below 256 payload
-    → bounds_answer identifier (length payload) ≡ Between least most → length_answer identifier payload ≡ Length k
+    → bounds_answer identifier (length payload) ≡ between least most → length_answer identifier payload ≡ Ok k
     → (least ≤ k) × (k ≤ most)
 bounds-hold = reported.bounds-hold

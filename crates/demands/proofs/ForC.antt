@@ -13,10 +13,9 @@ use Prim.Native.Nat.{ℕ}
 use contract.Lifetimes.{Lfts}
 use mathlib.Core.List.{List}
 use lib.ListN.{length}
+use Rattle.std.proofs.Common.{Result, Ok, Err}
 use Rattle.refusals.specs.Table.{Numbers, given, in_table, answer_numbers}
 use Rattle.refusals.specs.declared.Refusal.{Refusal}
-use Rattle.refusals.specs.declared.Answer.{Answer}
-use Rattle.refusals.specs.declared.Answer.TheVariants.{Length, Refused}
 use Rattle.refusals.proofs.Table.{number-some}
 use Rattle.refusals.proofs.Answers.{answer-only}
 use Rattle.field.specs.Encode.{encode_answer}
@@ -27,9 +26,8 @@ use Rattle.wire.specs.Answers.{make_answer, length_answer, bounds_answer, bounds
 use Rattle.wire.specs.declared.Bounds.{Bounds}
 use Rattle.wire.proofs.Identifiers.{for-c-back, allowed-small}
 use Rattle.wire.proofs.BoundsAnswers.{bounds-only}
-use Rattle.line.specs.Read.{acknowledged, own, read_answer, line_numbers}
-use Rattle.line.specs.declared.Line.{Line}
-use Rattle.line.specs.declared.Line.TheVariants as line
+use Rattle.line.specs.Read.{acknowledged, own, read_answer, line_numbers, framed}
+use Rattle.line.specs.declared.Frame.{Frame}
 use Rattle.reading.specs.declared.Reading.{Reading}
 use Rattle.line.proofs.ReadAnswers.{Bit31Free, line-only}
 use Rattle.line.proofs.Small.{read-free}
@@ -86,40 +84,40 @@ read-own-line-told κs i a s allowed =
     let answer = read_answer own i.0.now (length i.1.0.now) in
     ap told allowed.0 ∙ told_back (line_numbers answer) (read_fits _ _ _ answer refl)
 
-pub answer-exactly : {x : Answer} (a : ℕ) → told a ≡ answer_numbers x → (y : Answer) → told a ≡ answer_numbers y ↔ x ≡ y
+pub answer-exactly : {x : Result ℕ Refusal} (a : ℕ) → told a ≡ answer_numbers x → (y : Result ℕ Refusal) → told a ≡ answer_numbers y ↔ x ≡ y
 answer-exactly a is y = (λ read. answer-only _ y (sym is ∙ read), λ same. is ∙ ap answer_numbers same)
 
-pub bounds-exactly : {x : Bounds} (a : ℕ) → told a ≡ bounds_numbers x → (y : Bounds) → told a ≡ bounds_numbers y ↔ x ≡ y
+pub bounds-exactly : {x : Result Bounds Refusal} (a : ℕ) → told a ≡ bounds_numbers x → (y : Result Bounds Refusal) → told a ≡ bounds_numbers y ↔ x ≡ y
 bounds-exactly a is y = (λ read. bounds-only _ y (sym is ∙ read), λ same. is ∙ ap bounds_numbers same)
 
 pub line-exactly : (reading : Reading) (bits : List ℕ) (room a : ℕ) → told a ≡ line_numbers (read_answer reading bits room)
-    → ((r : Refusal) → told a ≡ in_table r ↔ read_answer reading bits room ≡ line.Refused r)
+    → ((r : Refusal) → told a ≡ in_table r ↔ read_answer reading bits room ≡ Err r)
     × ((n : ℕ) (identifier : Identifier) → Allowed identifier
-    → told a ≡ given n (number_for_c identifier) ↔ read_answer reading bits room ≡ line.Frame n identifier)
+    → told a ≡ given n (number_for_c identifier) ↔ read_answer reading bits room ≡ framed n identifier)
 line-exactly reading bits room a is = (
-  λ r. (λ read. line-only _ (line.Refused r) free tt (sym is ∙ read), λ same. is ∙ ap line_numbers same),
+  λ r. (λ read. line-only _ (Err r) free tt (sym is ∙ read), λ same. is ∙ ap line_numbers same),
   λ n identifier known.
-      (λ read. line-only _ (line.Frame n identifier) free (allowed-small identifier known) (sym is ∙ read), λ same. is ∙ ap line_numbers same),
+      (λ read. line-only _ (framed n identifier) free (allowed-small identifier known) (sym is ∙ read), λ same. is ∙ ap line_numbers same),
 )
   where
     free : Bit31Free (read_answer reading bits room)
     free = read-free reading bits room
 
-pub length-told : {x : Answer} {n : ℕ} (a : ℕ) → told a ≡ answer_numbers x → x ≡ Length n → ((told a).refusal ≡ 0) × ((told a).low ≡ n)
+pub length-told : {x : Result ℕ Refusal} {n : ℕ} (a : ℕ) → told a ≡ answer_numbers x → x ≡ Ok n → ((told a).refusal ≡ 0) × ((told a).low ≡ n)
 length-told a read is =
     let numbers = read ∙ ap answer_numbers is in
     (ap (λ (x : Numbers). x.refusal) numbers, ap (λ (x : Numbers). x.low) numbers)
 
-pub none_told : {x : Answer} (a : ℕ) → told a ≡ answer_numbers x → (told a).refusal ≡ 0 → x ≡ Length (told a).low
-none_told {x = Length n} a read none = ap Length (ap (λ (x : Numbers). x.low) (sym read))
-none_told {x = Refused r} a read none = absurd (number-some r (sym none ∙ ap (λ (x : Numbers). x.refusal) read))
+pub none_told : {x : Result ℕ Refusal} (a : ℕ) → told a ≡ answer_numbers x → (told a).refusal ≡ 0 → x ≡ Ok (told a).low
+none_told {x = Ok n} a read none = ap Ok (ap (λ (x : Numbers). x.low) (sym read))
+none_told {x = Err r} a read none = absurd (number-some r (sym none ∙ ap (λ (x : Numbers). x.refusal) read))
 
 pub frame-told : (reading : Reading) (bits : List ℕ) (room a : ℕ) → told a ≡ line_numbers (read_answer reading bits room) → (told a).refusal ≡ 0
-    → read_answer reading bits room ≡ line.Frame (told a).low (identifier_of (told a).high)
+    → read_answer reading bits room ≡ framed (told a).low (identifier_of (told a).high)
 frame-told reading bits room a read none = go (read_answer reading bits room) read (read-free reading bits room)
   where
-    go : (x : Line) → told a ≡ line_numbers x → Bit31Free x → x ≡ line.Frame (told a).low (identifier_of (told a).high)
-    go (line.Frame n identifier) is free =
-        ap₂ line.Frame (ap (λ (x : Numbers). x.low) (sym is))
-        (sym (ap (λ (x : Numbers). identifier_of x.high) is ∙ for-c-back identifier free))
-    go (line.Refused r) is free = absurd (number-some r (sym none ∙ ap (λ (x : Numbers). x.refusal) is))
+    go : (x : Result Frame Refusal) → told a ≡ line_numbers x → Bit31Free x → x ≡ framed (told a).low (identifier_of (told a).high)
+    go (Ok f) is free =
+        ap₂ framed (ap (λ (x : Numbers). x.low) (sym is))
+        (sym (ap (λ (x : Numbers). identifier_of x.high) is ∙ for-c-back f.identifier free))
+    go (Err r) is free = absurd (number-some r (sym none ∙ ap (λ (x : Numbers). x.refusal) is))

@@ -24,8 +24,7 @@ use Rattle.wire.proofs.Identifiers as identifiers
 use Rattle.wire.proofs.HeaderBits as bits_of
 use Rattle.reading.specs.declared.Reading.{Reading}
 use Rattle.line.specs.Ack.{with_ack}
-use Rattle.line.specs.Read.{read_answer, payload_in}
-use Rattle.line.specs.declared.Line.TheVariants.{Frame}
+use Rattle.line.specs.Read.{read_answer, payload_in, framed}
 use Rattle.line.proofs.RoundTrip.{accepted-is-coded}
 use Rattle.line.proofs.LineTells as lines
 
@@ -79,7 +78,7 @@ pub forms-apart : (x y : ℕ) (p q : List ℕ) (a b : ℕ) → x ≤ 2047 → y 
 forms-apart = lines.forms-apart
 
 pub identifier-told : (reading : Reading) (i j : Identifier) (payload : List ℕ) (ack room n : ℕ) → Allowed j → Below 256 payload
-    → length payload ≤ 7 → read_answer reading (with_ack ack (payload_line j payload)) room ≡ Frame n i → i ≡ j
+    → length payload ≤ 7 → read_answer reading (with_ack ack (payload_line j payload)) room ≡ framed n i → i ≡ j
 identifier-told reading i j payload ack room n known bytes short accepted =
     let line = with_ack ack (payload_line j payload) in
     let coded = accepted-is-coded reading line room i n accepted in

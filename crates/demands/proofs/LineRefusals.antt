@@ -19,11 +19,11 @@ use mathlib.Core.List.{List, [], ◌∷◌, ◌++◌}
 use mathlib.Core.Logic.{◌↔◌, ◌≢◌, ◌⊎◌, inl, inr}
 use Prim.Native.Nat.{ℕ, ◌+◌, ◌≤◌, ◌<◌}
 use lib.ListN.{length, get_or, take}
+use Rattle.std.proofs.Common.{Err}
 use Rattle.bits.specs.Below.{Below}
 use Rattle.bits.specs.Stuffing.{nothing_sent}
 use Rattle.refusals.specs.Among.{Among}
 use Rattle.refusals.specs.Table.{number_of, place_of}
-use Rattle.refusals.specs.declared.Answer.TheVariants as answer
 use Rattle.refusals.specs.declared.Refusal.{Refusal}
 use Rattle.refusals.specs.declared.Refusal.TheVariants.{LineLength, FixedBit, NotAcknowledged}
 use Rattle.refusals.proofs.Table.{refusal-only}
@@ -41,8 +41,7 @@ use Rattle.reading.proofs.Stands.{bit_numbers}
 use Rattle.reading.proofs.OtherLength.{cut-before}
 use Rattle.reading.proofs.ProblemMet.{problem-met, right-before, problem-stops}
 use Rattle.line.specs.Ack.{with_ack}
-use Rattle.line.specs.Read.{acknowledged, own, with_identifier, read_answer}
-use Rattle.line.specs.declared.Line.TheVariants.{Frame, Refused}
+use Rattle.line.specs.Read.{acknowledged, own, with_identifier, read_answer, framed}
 use Rattle.line.proofs.ReadAnswers.{read-stopped}
 use Rattle.line.proofs.ReadRefusals.{field_numbers, read-numbers, bits-refused, field-refused, refused-field, cut_line, longer-line}
 use Rattle.line.proofs.RoundTrip.{read-frame}
@@ -72,7 +71,7 @@ module _ (reading : Reading) where
         ⊎ ((met ≡ length line) × (refusal ≡ LineLength (length line)) × (complete frame ≡ false)))
         × ((k : ℕ) → k < met → verdict_at k ≡ right)
 
-    pub line-bits : OfBits refusal → (read_answer reading line room ≡ Refused refusal ↔ (met : ℕ) × MetAt met)
+    pub line-bits : OfBits refusal → (read_answer reading line room ≡ Err refusal ↔ (met : ℕ) × MetAt met)
     line-bits bits = (
       λ refused.
           let stop = bits-refused reading line room refusal refused bits in
@@ -87,18 +86,18 @@ module _ (reading : Reading) where
         (stands.not_behind, stands.near, stands.there)
 
     pub line-field : (OfBits refusal → ⊥)
-        → (read_answer reading line room ≡ Refused refusal
+        → (read_answer reading line room ≡ Err refusal
         ↔ (identifier : Identifier) × (field : List ℕ) × (ack : ℕ) × Allowed identifier × Below 256 field × (length field ≢ 1) × (length field ≤ 8)
-        × (ack ≤ slot_most reading.slot) × (line ≡ with_ack ack (frame_line identifier field)) × (decode_answer field room ≡ answer.Refused refusal))
+        × (ack ≤ slot_most reading.slot) × (line ≡ with_ack ack (frame_line identifier field)) × (decode_answer field room ≡ Err refusal))
     line-field other = (λ refused. field-refused reading line room refusal refused other, refused-field reading line room refusal)
 
-    pub line_first : (met : ℕ) → MetAt met → (k room' : ℕ) → k < met → read_answer reading (take k line) room' ≡ Refused (LineLength k)
+    pub line_first : (met : ℕ) → MetAt met → (k room' : ℕ) → k < met → read_answer reading (take k line) room' ≡ Err (LineLength k)
     line_first met (h, before) k room' early =
         read-stopped reading (take k line) room' k (LineLength k)
         (cut-before reading line met refusal k (problem-stops reading line met refusal h before) early)
 
     pub line_stays : (met : ℕ) → MetAt met → met < length line → (line' : List ℕ) (room' : ℕ) → take (met + 1) line ≡ take (met + 1) line'
-        → read_answer reading line' room' ≡ Refused refusal
+        → read_answer reading line' room' ≡ Err refusal
     line_stays met (h, before) inside line' room' same =
         read-stopped reading line' room' met refusal
         (stopped-stays reading line line' met refusal (problem-stops reading line met refusal h before) inside same)
@@ -121,11 +120,11 @@ module _ (reading : Reading) where
         let stop = problem-stops reading line met (FixedBit met) h before in
         (λ e. fixed-elsewhere reading line met stop (inl e), λ e. fixed-elsewhere reading line met stop (inr e))
 
-  module _ (line : List ℕ) (room room' : ℕ) (identifier : Identifier) (n : ℕ) (accepted : read_answer reading line room ≡ Frame n identifier) where
-    pub line-cut : (k : ℕ) → k < length line → read_answer reading (take k line) room' ≡ Refused (LineLength k)
+  module _ (line : List ℕ) (room room' : ℕ) (identifier : Identifier) (n : ℕ) (accepted : read_answer reading line room ≡ framed n identifier) where
+    pub line-cut : (k : ℕ) → k < length line → read_answer reading (take k line) room' ≡ Err (LineLength k)
     line-cut k = cut_line reading line room room' identifier n k accepted
 
-    pub line-longer : (bit : ℕ) (more : List ℕ) → read_answer reading (line ++ (bit ∷ more)) room' ≡ Refused (LineLength (length line))
+    pub line-longer : (bit : ℕ) (more : List ℕ) → read_answer reading (line ++ (bit ∷ more)) room' ≡ Err (LineLength (length line))
     line-longer bit more = longer-line reading line room room' identifier n bit more accepted
 
   pub line-decoded : (identifier : Identifier) (field : List ℕ) (ack room : ℕ) → Allowed identifier → Below 256 field → length field ≤ 8
@@ -136,7 +135,7 @@ module _ (reading : Reading) where
 -- ---- no other refusals
 
 module _ (line : List ℕ) (room : ℕ) (refusal : Refusal) where
-  pub line-no-other : read_answer acknowledged line room ≡ Refused refusal
+  pub line-no-other : read_answer acknowledged line room ≡ Err refusal
       → Among (3 ∷ 9 ∷ 10 ∷ 11 ∷ 12 ∷ 13 ∷ 20 ∷ 2 ∷ 4 ∷ 5 ∷ 6 ∷ 7 ∷ []) (number_of refusal)
   line-no-other refused = go (read-numbers acknowledged line room refusal refused)
     where
@@ -144,7 +143,7 @@ module _ (line : List ℕ) (room : ℕ) (refusal : Refusal) where
       go (inl bits) = among_first bit_numbers field_numbers (number_of refusal) bits
       go (inr field) = among-last bit_numbers field_numbers (number_of refusal) field
 
-  pub own-no-other : read_answer own line room ≡ Refused refusal
+  pub own-no-other : read_answer own line room ≡ Err refusal
       → Among (3 ∷ 9 ∷ 10 ∷ 11 ∷ 12 ∷ 13 ∷ 2 ∷ 4 ∷ 5 ∷ 6 ∷ 7 ∷ []) (number_of refusal)
   own-no-other refused = go (read-numbers own line room refusal refused)
     where
@@ -154,7 +153,7 @@ module _ (line : List ℕ) (room : ℕ) (refusal : Refusal) where
       twenty : number_of refusal ≡ 20 → ⊥
       twenty is =
           own-never-20 line room (place_of refusal)
-          (refused ∙ ap Refused (refusal-only refusal (NotAcknowledged (place_of refusal)) is refl))
+          (refused ∙ ap Err (refusal-only refusal (NotAcknowledged (place_of refusal)) is refl))
 
       bits : Among others (number_of refusal) ⊎ Among (20 ∷ []) (number_of refusal) → Among (others ++ field_numbers) (number_of refusal)
       bits (inl h) = among_first others field_numbers (number_of refusal) h

@@ -55,6 +55,7 @@ use Rattle.words.proofs.word_list.list.Symbol as word-list
 use Rattle.words.proofs.word_in.Symbol as word_in
 use Rattle.words.proofs.short_list.list.Symbol as short-list
 use Rattle.words.proofs.entry_in.Symbol as entry_in
+use Rattle.words.proofs.carried.Symbol as carried
 use Rattle.words.proofs.is_escape.Symbol as is-escape
 
 -- a program that has the tables of the crates that have code
@@ -87,11 +88,8 @@ module _ (program : World) (has : Program program) where
   field-below = (
     in-bits.has-bytes-store program has.bits bits-below,
     (
-      in-words.has-word_in program has.words words-below,
-      (
-        in-words.has-word_list-list program has.words words-below,
-        tt,
-      ),
+      in-words.has-word program has.words words-below,
+      tt,
     ),
   )
 
@@ -105,13 +103,10 @@ module _ (program : World) (has : Program program) where
         (
           in-field.has-table-row_of program has.field field-below,
           (
-            in-words.has-entry_in program has.words words-below,
+            in-words.has-carried program has.words words-below,
             (
               in-words.has-is_escape program has.words words-below,
-              (
-                in-words.has-short_list-list program has.words words-below,
-                tt,
-              ),
+              tt,
             ),
           ),
         ),
@@ -294,6 +289,9 @@ module _ (program : World) (has : Program program) where
   pub entry-in-code : HasT (in_world program) true entry_in.code
   entry-in-code = in-words.has-entry_in program has.words words-below
 
+  pub carried-code : HasT (in_world program) true carried.code
+  carried-code = in-words.has-carried program has.words words-below
+
   pub is-escape-code : HasT (in_world program) true is-escape.code
   is-escape-code = in-words.has-is_escape program has.words words-below
 
@@ -427,6 +425,9 @@ short-list-linked = linked short-list.code (short-list-code program has)
 
 pub entry-in-linked : Wired library entry_in.code
 entry-in-linked = linked entry_in.code (entry-in-code program has)
+
+pub carried-linked : Wired library carried.code
+carried-linked = linked carried.code (carried-code program has)
 
 pub is-escape-linked : Wired library is-escape.code
 is-escape-linked = linked is-escape.code (is-escape-code program has)

@@ -61,6 +61,8 @@ use Rattle.words.proofs.word_in.Met as word_in
 use Rattle.words.proofs.word_in.Statement as word-in-contract
 use Rattle.words.proofs.entry_in.Met as entry_in
 use Rattle.words.proofs.entry_in.Statement as entry-in-contract
+use Rattle.words.proofs.carried.Met as carried
+use Rattle.words.proofs.carried.Statement as carried-contract
 use Rattle.words.proofs.is_escape.Met as is-escape
 use Rattle.words.proofs.is_escape.Statement as is-escape-contract
 use Rattle.words.proofs.word_list.list.Met as word-list
@@ -164,6 +166,9 @@ word-in-meets = word_in.met
 
 pub entry-in-meets : {M : Type 1} → entry-in-contract.statement M
 entry-in-meets = entry_in.met
+
+pub carried-meets : {M : Type 1} → carried-contract.statement M
+carried-meets = carried.met
 
 pub is-escape-meets : {M : Type 1} → is-escape-contract.statement M
 is-escape-meets = is-escape.met

@@ -6,12 +6,7 @@
 --     record-field      a data field of n bytes, of a kind from 20 to 29 hex
 --     record-kind       the numbers of both are that length and the kind byte
 --     record-end        nothing
-use mathlib.Core.Path.{◌≡◌, refl, sym, ap, ◌∙◌, subst}
-use mathlib.Core.List.{List}
-use mathlib.Core.Logic.{◌↔◌, ◌⊎◌, inl, inr}
-use Prim.Native.Nat.{ℕ, ◌+◌, ◌≤◌, ◌<◌, min}
-use native.Mathlib.Omega.{arith}
-use lib.ListN.{length, get_or}
+use Rattle.std.proofs.Common.{◌≡◌, ℕ, ◌+◌, ◌≤◌, ◌<◌, min, List, length, get_or, Option, Some, None, Result, Ok, Err, ◌↔◌, ◌⊎◌, inl, inr, refl, sym, ap, ◌∙◌, subst, arith}
 use Rattle.refusals.specs.Table.{Numbers, given, ◌at◌, place_of}
 use Rattle.refusals.specs.declared.Refusal.{Refusal}
 use Rattle.refusals.specs.declared.Refusal.TheVariants as refusal
@@ -35,13 +30,16 @@ module _ (trace : List ℕ) (offset : ℕ) where
   abbrev NoKind : Type 0
   NoKind = (0x10 ≤ byte → byte ≤ 0x18 → ⊥) × (0x20 ≤ byte → byte ≤ 0x29 → ⊥)
 
-  exactly : (r : Record) → record_at trace offset ≡ r ↔ records.RecordGiven trace offset r
+  exactly : (r : Result (Option Record) Refusal) → record_at trace offset ≡ r ↔ records.RecordGiven trace offset r
   exactly r = (λ e. subst (records.RecordGiven trace offset) e (records.record-given trace offset), records.given-record trace offset r)
 
+  regrouped : (P Q R : Type 0) {S : Type 0} → S ↔ P × (Q × R) → S ↔ P × Q × R
+  regrouped P Q R e = (λ s. let h = e.0 s in (h.0, h.1.0, h.1.1), λ h. e.1 (h.0, (h.1, h.2)))
+
   pub record-refused : (r : Refusal)
-      → record_at trace offset ≡ found.Refused r
+      → record_at trace offset ≡ Err r
       ↔ (offset < end) × (r ≡ refusal.Record offset) × (NoKind ⊎ Cut 8 0x10 ⊎ Cut 9 0x20)
-  record-refused r = exactly (found.Refused r)
+  record-refused r = exactly (Err r)
 
   pub record-14 : (place : ℕ)
       → record_numbers (record_at trace offset) ≡ (14 at place) ↔ (offset < end) × (place ≡ offset) × (NoKind ⊎ Cut 8 0x10 ⊎ Cut 9 0x20)
@@ -53,25 +51,25 @@ module _ (trace : List ℕ) (offset : ℕ) where
       no : {A : Type 0} → ◌≡◌ {A = ℕ} 0 14 → A
       no e = absurd (omega arith)
 
-      go : (r : Record) → record_at trace offset ≡ r → record_numbers r ≡ (14 at place)
+      go : (r : Result (Option Record) Refusal) → record_at trace offset ≡ r → record_numbers r ≡ (14 at place)
           → (offset < end) × (place ≡ offset) × (NoKind ⊎ Cut 8 0x10 ⊎ Cut 9 0x20)
-      go (found.Payload n) e numbers = no (ap (λ (x : Numbers). x.refusal) numbers)
-      go (found.Field n) e numbers = no (ap (λ (x : Numbers). x.refusal) numbers)
-      go found.End e numbers = no (ap (λ (x : Numbers). x.refusal) numbers)
-      go (found.Refused r) e numbers =
+      go (Ok (Some (found.Payload n))) e numbers = no (ap (λ (x : Numbers). x.refusal) numbers)
+      go (Ok (Some (found.Field n))) e numbers = no (ap (λ (x : Numbers). x.refusal) numbers)
+      go (Ok None) e numbers = no (ap (λ (x : Numbers). x.refusal) numbers)
+      go (Err r) e numbers =
           let given = (record-refused r).0 e in
           (given.0, sym (ap (λ (x : Numbers). x.low) numbers) ∙ ap place_of given.1, given.2)
 
-  pub record-payload : (n : ℕ) → record_at trace offset ≡ found.Payload n ↔ (offset + 1 + n ≤ end) × (n ≤ 8) × (byte ≡ 0x10 + n)
-  record-payload n = exactly (found.Payload n)
+  pub record-payload : (n : ℕ) → record_at trace offset ≡ Ok (Some (found.Payload n)) ↔ (offset + 1 + n ≤ end) × (n ≤ 8) × (byte ≡ 0x10 + n)
+  record-payload n = regrouped _ _ _ (exactly (Ok (Some (found.Payload n))))
 
-  pub record-field : (n : ℕ) → record_at trace offset ≡ found.Field n ↔ (offset + 1 + n ≤ end) × (n ≤ 9) × (byte ≡ 0x20 + n)
-  record-field n = exactly (found.Field n)
+  pub record-field : (n : ℕ) → record_at trace offset ≡ Ok (Some (found.Field n)) ↔ (offset + 1 + n ≤ end) × (n ≤ 9) × (byte ≡ 0x20 + n)
+  record-field n = regrouped _ _ _ (exactly (Ok (Some (found.Field n))))
 
-  pub record-kind : (n : ℕ) → (record_at trace offset ≡ found.Payload n) ⊎ (record_at trace offset ≡ found.Field n)
+  pub record-kind : (n : ℕ) → (record_at trace offset ≡ Ok (Some (found.Payload n))) ⊎ (record_at trace offset ≡ Ok (Some (found.Field n)))
       → record_numbers (record_at trace offset) ≡ given n byte
   record-kind n (inl e) = ap record_numbers e ∙ ap (given n) (sym ((record-payload n).0 e).2)
   record-kind n (inr e) = ap record_numbers e ∙ ap (given n) (sym ((record-field n).0 e).2)
 
-  pub record-end : record_at trace offset ≡ found.End ↔ end ≤ offset
-  record-end = exactly found.End
+  pub record-end : record_at trace offset ≡ Ok None ↔ end ≤ offset
+  record-end = exactly (Ok None)

@@ -13,9 +13,10 @@ use native.Mathlib.Omega.{arith}
 use contract.Lifetimes.{Lfts}
 use lib.ListN.{length, take, drop}
 use lib.Seq.{take_at}
+use Rattle.std.proofs.Common.{Result}
+use Rattle.refusals.specs.declared.Refusal.{Refusal}
 use Rattle.refusals.specs.Table.{Numbers, answer_numbers}
 use Rattle.refusals.specs.After.{after}
-use Rattle.refusals.specs.declared.Answer.{Answer}
 use Rattle.field.specs.Sizes.{field_bytes}
 use Rattle.field.specs.Field.{field_of}
 use Rattle.field.proofs.FieldBits.{field-length}
@@ -28,7 +29,7 @@ use Rattle.reading.specs.Scan.{slot_most}
 use Rattle.reading.specs.declared.Reading.{Reading}
 use Rattle.line.specs.Ack.{with_ack}
 use Rattle.line.specs.Read.{acknowledged, own, read_answer, payload_in, line_numbers}
-use Rattle.line.specs.declared.Line.{Line}
+use Rattle.line.specs.declared.Frame.{Frame}
 use Rattle.line.proofs.RoundTrip.{read_made}
 use Rattle.prushgoli.specs.Packing.{told}
 use Rattle.prushgoli.proofs.prushgoli_encode.Reads as encode
@@ -72,7 +73,7 @@ module _ (κs : Lfts 2) (i : _) (a : ℕ) (s : _) (allowed : encode.Learnt κs i
       let answered = ap (λ (f : List ℕ). decode_answer f (length old)) field ∙ decode-encode payload (length old) bytes short fits in
       let carried = ap payload_of field ∙ payload-of-field payload bytes short in
       let read = length-told b (decode-told κs' j b t also) answered in
-      (read.0, read.1, also.1 ∙ ap₂ (λ (x : Answer) (p : List ℕ). after (answer_numbers x) p old) answered carried)
+      (read.0, read.1, also.1 ∙ ap₂ (λ (x : Result ℕ Refusal) (p : List ℕ). after (answer_numbers x) p old) answered carried)
 
 -- making with the inputs i, its answer a, the parameters s after it; identifier, payload and room are in order
 module _ (κs : Lfts 2) (i : _) (a : ℕ) (s : _) (allowed : make-frame.Learnt κs i a s) (known : Allowed (identifier_of i.0))
@@ -107,7 +108,7 @@ module _ (κs : Lfts 2) (i : _) (a : ℕ) (s : _) (allowed : make-frame.Learnt �
         ap (λ (x : Numbers). x.refusal) numbers,
         ap (λ (x : Numbers). x.high) numbers ∙ from-c-back i.0,
         ap (λ (x : Numbers). x.low) numbers,
-        leaves ∙ ap₂ (λ (x : Line) (p : List ℕ). after (line_numbers x) p old) answered carried,
+        leaves ∙ ap₂ (λ (x : Result Frame Refusal) (p : List ℕ). after (line_numbers x) p old) answered carried,
       )
 
   -- reading with the inputs j, its answer b, the parameters t after it

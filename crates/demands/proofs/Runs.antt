@@ -41,6 +41,7 @@ use Rattle.words.proofs.word_list.list as word-list
 use Rattle.words.proofs.word_in as word_in
 use Rattle.words.proofs.short_list.list as short-list
 use Rattle.words.proofs.entry_in as entry_in
+use Rattle.words.proofs.carried as carried
 use Rattle.words.proofs.is_escape as is-escape
 use Rattle.demands.specs.Runs.{RunsEverywhere}
 use Rattle.demands.proofs.Running.{runs, running}
@@ -149,6 +150,9 @@ short-list-runs = runs short-list.Symbol.code short-list.Symbol.name short-list.
 
 pub entry-in-runs : RunsEverywhere entry_in.Kinds.ps entry_in.Kinds.r entry_in.Reads.Asked entry_in.Reads.Learnt entry_in.Symbol.code entry_in.Symbol.name
 entry-in-runs = runs entry_in.Symbol.code entry_in.Symbol.name entry_in.Reads.known (λ γ. entry_in.Met.met 𝓤 logic₀ model⁺ (running γ))
+
+pub carried-runs : RunsEverywhere carried.Kinds.ps carried.Kinds.r carried.Reads.Asked carried.Reads.Learnt carried.Symbol.code carried.Symbol.name
+carried-runs = runs carried.Symbol.code carried.Symbol.name carried.Reads.known (λ γ. carried.Met.met 𝓤 logic₀ model⁺ (running γ))
 
 pub is-escape-runs : RunsEverywhere is-escape.Kinds.ps is-escape.Kinds.r is-escape.Reads.Asked is-escape.Reads.Learnt is-escape.Symbol.code is-escape.Symbol.name
 is-escape-runs = runs is-escape.Symbol.code is-escape.Symbol.name is-escape.Reads.known (λ γ. is-escape.Met.met 𝓤 logic₀ model⁺ (running γ))

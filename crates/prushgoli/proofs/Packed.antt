@@ -9,9 +9,9 @@
 use mathlib.Core.Path.{◌≡◌, sym, ap, ◌∙◌}
 use mathlib.Core.List.{List}
 use Prim.Native.Nat.{ℕ, ◌+◌, ◌*◌, ◌/◌, ◌%◌, ◌^◌, ◌<◌}
+use Rattle.std.proofs.Common.{Result}
 use native.Mathlib.Omega.{arith}
 use Rattle.refusals.specs.Table.{Numbers, place_of, in_table, answer_numbers}
-use Rattle.refusals.specs.declared.Answer.{Answer}
 use Rattle.refusals.specs.declared.Refusal.{Refusal}
 use Rattle.refusals.proofs.Table.{number_small, high-none}
 use Rattle.refusals.proofs.Answers.{answer-only}
@@ -19,7 +19,7 @@ use Rattle.wire.specs.Answers.{bounds_numbers}
 use Rattle.wire.specs.declared.Bounds.{Bounds}
 use Rattle.wire.proofs.BoundsAnswers.{bounds-only}
 use Rattle.line.specs.Read.{line_numbers}
-use Rattle.line.specs.declared.Line.{Line}
+use Rattle.line.specs.declared.Frame.{Frame}
 use Rattle.line.proofs.ReadAnswers.{Bit31Free, line-only}
 use Rattle.prushgoli.specs.Packing.{pack, told}
 
@@ -47,13 +47,13 @@ told_back x f = λ i. record { refusal = second i; low = first i; high = third i
 pub pack-only : (x y : Numbers) → Fits x → Fits y → pack x ≡ pack y → x ≡ y
 pack-only x y f g e = sym (told_back x f) ∙ ap told e ∙ told_back y g
 
-pub answer-packs : (a b : Answer) → Fits (answer_numbers a) → Fits (answer_numbers b) → pack (answer_numbers a) ≡ pack (answer_numbers b) → a ≡ b
+pub answer-packs : (a b : Result ℕ Refusal) → Fits (answer_numbers a) → Fits (answer_numbers b) → pack (answer_numbers a) ≡ pack (answer_numbers b) → a ≡ b
 answer-packs a b f g e = answer-only a b (pack-only (answer_numbers a) (answer_numbers b) f g e)
 
-pub bounds-pack : (a b : Bounds) → Fits (bounds_numbers a) → Fits (bounds_numbers b) → pack (bounds_numbers a) ≡ pack (bounds_numbers b) → a ≡ b
+pub bounds-pack : (a b : Result Bounds Refusal) → Fits (bounds_numbers a) → Fits (bounds_numbers b) → pack (bounds_numbers a) ≡ pack (bounds_numbers b) → a ≡ b
 bounds-pack a b f g e = bounds-only a b (pack-only (bounds_numbers a) (bounds_numbers b) f g e)
 
-pub line-packs : (a b : Line) → Bit31Free a → Bit31Free b → Fits (line_numbers a) → Fits (line_numbers b) → pack (line_numbers a) ≡ pack (line_numbers b)
+pub line-packs : (a b : Result Frame Refusal) → Bit31Free a → Bit31Free b → Fits (line_numbers a) → Fits (line_numbers b) → pack (line_numbers a) ≡ pack (line_numbers b)
     → a ≡ b
 line-packs a b x y f g e = line-only a b x y (pack-only (line_numbers a) (line_numbers b) f g e)
 

@@ -1,4 +1,5 @@
-// An identifier as C has it, in one number: bit 31 is set for the long form, the other bits are its number.
+// An identifier as C has it, in one number: bit 31 is set for the long form, the other bits are its number. Not by From, which belongs to
+// the crate of a type, and could not ask that bit 31 is free.
 ghost use Rattle.std.specs.Prelude.{◌≡◌, ◌^◌, ◌<◌};
 ghost use Rattle.wire.specs.Identifier.{number_for_c, identifier_of};
 

@@ -22,7 +22,7 @@ pub fn prushgoli_encode(payload: &[u8], field: &mut [u8]) -> u64
     ensures answer { result ≡ pack (answer_numbers (encode_answer payload.now (length field.old))) }
     ensures memory { field.new ≡ after (answer_numbers (encode_answer payload.now (length field.old))) (field_of payload.now) field.old }
 {
-    packing::answer(field::encode(payload, field))
+    packing::answer(&field::encode(payload, field))
 }
 
 // Decodes a field into its payload.
@@ -30,21 +30,21 @@ pub fn prushgoli_decode(field: &[u8], payload: &mut [u8]) -> u64
     ensures answer { result ≡ pack (answer_numbers (decode_answer field.now (length payload.old))) }
     ensures memory { payload.new ≡ after (answer_numbers (decode_answer field.now (length payload.old))) (payload_of field.now) payload.old }
 {
-    packing::answer(decoding::decode(field, payload))
+    packing::answer(&decoding::decode(field, payload))
 }
 
 // The length of the frame of an identifier and a payload.
 pub fn prushgoli_frame_length(identifier: u32, payload: &[u8]) -> u64
     ensures { result ≡ pack (answer_numbers (length_answer (identifier_of identifier) payload.now)) }
 {
-    packing::answer(frame::frame_length(identifier::of(identifier), payload))
+    packing::answer(&frame::frame_length(identifier::of(identifier), payload))
 }
 
 // The bounds of the length of every frame of an identifier and a size.
 pub fn prushgoli_frame_bounds(identifier: u32, size: usize) -> u64
     ensures { result ≡ pack (bounds_numbers (bounds_answer (identifier_of identifier) size)) }
 {
-    packing::bounds(frame::frame_bounds(identifier::of(identifier), size))
+    packing::answer(&frame::frame_bounds(identifier::of(identifier), size))
 }
 
 // Makes the line of the frame of an identifier and a payload.
@@ -52,7 +52,7 @@ pub fn prushgoli_make_frame(identifier: u32, payload: &[u8], line: &mut [u8]) ->
     ensures answer { result ≡ pack (answer_numbers (make_answer (identifier_of identifier) payload.now (length line.old))) }
     ensures memory { line.new ≡ after (answer_numbers (make_answer (identifier_of identifier) payload.now (length line.old))) (payload_line (identifier_of identifier) payload.now) line.old }
 {
-    packing::answer(frame::make_frame(identifier::of(identifier), payload, line))
+    packing::answer(&frame::make_frame(identifier::of(identifier), payload, line))
 }
 
 // Reads a line from a live bus: the identifier and the payload of its frame.
@@ -71,10 +71,11 @@ pub fn prushgoli_read_own_line(line: &[u8], payload: &mut [u8]) -> u64
     read(line, payload, reading::OWN)
 }
 
-// One body for both: the reader is nearly a third of the archive's code. Lent anew, the line comes in registers.
+// One body for both, which C has under two names: the reader is nearly a third of the archive's code. With `&*` the line is handed on in
+// registers, and not through memory.
 fn read(line: &[u8], payload: &mut [u8], reading: Reading) -> u64
     ensures answer { result ≡ pack (line_numbers (read_answer reading line.now (length payload.old))) }
     ensures memory { payload.new ≡ after (line_numbers (read_answer reading line.now (length payload.old))) (payload_in reading line.now) payload.old }
 {
-    packing::line(line::read(&*line, payload, reading))
+    packing::answer(&line::read(&*line, payload, reading))
 }

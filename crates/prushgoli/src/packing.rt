@@ -1,52 +1,83 @@
 // One number for each answer: bits 0 to 15 a length or a place, bits 16 to 31 the refusal's number, from bit 32 on what else there is.
-ghost use Rattle.std.specs.Prelude.{◌≡◌, ◌+◌, ◌*◌, ◌^◌, ◌<◌};
-ghost use Rattle.refusals.specs.Table.{in_table, place_of, answer_numbers};
-ghost use Rattle.wire.specs.Answers.{bounds_numbers};
-ghost use Rattle.line.specs.Read.{line_numbers};
+ghost use Rattle.std.specs.Prelude.{◌≡◌, refl, ◌+◌, ◌*◌, ◌^◌, ◌<◌};
+ghost use Rattle.refusals.specs.Table.{Numbers, given, numbers};
+ghost use Rattle.wire.specs.Identifier.{number_for_c};
 ghost use Rattle.prushgoli.specs.Packing.{pack};
 
 use crate::identifier;
-use line::Line;
-use refusals::{Answer, Refusal};
+use line::Frame;
+use refusals::Refusal;
 use wire::Bounds;
 
-pub(crate) fn answer(answer: Answer) -> u64
-    requires { (answer_numbers answer).low < 2 ^ 16 }
-    ensures { result ≡ pack (answer_numbers answer) }
+// What a call gives that does not refuse: a length, or what stands in its place, and what else there is.
+pub(crate) trait Given {
+    ghost told: { Self → Numbers };
+
+    ghost accepted: { (x : Self) → (told x).refusal ≡ 0 };
+
+    fn low(&self) -> usize
+        ensures { result ≡ (told self.now).low };
+
+    fn high(&self) -> u32
+        requires { (told self.now).high < 2 ^ 32 }
+        ensures { result ≡ (told self.now).high };
+}
+
+impl Given for usize {
+    ghost told = { λ n. given n 0 };
+
+    ghost accepted = { λ n. refl };
+
+    fn low(&self) -> usize {
+        *self
+    }
+
+    fn high(&self) -> u32 {
+        0
+    }
+}
+
+impl Given for Bounds {
+    ghost told = { λ b. given b.least b.most };
+
+    ghost accepted = { λ b. refl };
+
+    fn low(&self) -> usize {
+        self.least
+    }
+
+    fn high(&self) -> u32 {
+        self.most as u32
+    }
+}
+
+impl Given for Frame {
+    ghost told = { λ f. given f.length (number_for_c f.identifier) };
+
+    ghost accepted = { λ f. refl };
+
+    fn low(&self) -> usize {
+        self.length
+    }
+
+    fn high(&self) -> u32 {
+        identifier::number(self.identifier)
+    }
+}
+
+// Packs what a call answers.
+pub(crate) fn answer<T: Given>(answer: &Result<T, Refusal>) -> u64
+    requires low { (numbers T.told answer.now).low < 2 ^ 16 }
+    requires high { (numbers T.told answer.now).high < 2 ^ 32 }
+    ensures { result ≡ pack (numbers T.told answer.now) }
 {
     match answer {
-        Answer::Length(length) => pack(length, 0, 0),
-        Answer::Refused(refusal) => refused(refusal),
+        Ok(given) => pack(given.low(), 0, given.high()),
+        Err(refusal) => pack(refusal.place(), refusal.number(), 0),
     }
 }
 
-pub(crate) fn bounds(bounds: Bounds) -> u64
-    requires { ((bounds_numbers bounds).low < 2 ^ 16) × ((bounds_numbers bounds).high < 2 ^ 16) }
-    ensures { result ≡ pack (bounds_numbers bounds) }
-{
-    match bounds {
-        Bounds::Between(least, most) => pack(least, 0, most as u32),
-        Bounds::Refused(refusal) => refused(refusal),
-    }
-}
-
-pub(crate) fn line(line: Line) -> u64
-    requires { ((line_numbers line).low < 2 ^ 16) × ((line_numbers line).high < 2 ^ 32) }
-    ensures { result ≡ pack (line_numbers line) }
-{
-    match line {
-        Line::Frame { length, identifier } => pack(length, 0, identifier::number(identifier)),
-        Line::Refused(refusal) => refused(refusal),
-    }
-}
-
-fn refused(refusal: Refusal) -> u64
-    requires { place_of refusal < 2 ^ 16 }
-    ensures { result ≡ pack (in_table refusal) }
-{
-    pack(refusal.place(), refusal.number(), 0)
-}
-
+// Puts the three numbers of an answer into one.
 fn pack(low: usize, refusal: u8, high: u32) -> u64
     requires { low < 2 ^ 16 }
     ensures { result ≡ low + refusal * 2 ^ 16 + high * 2 ^ 32 }

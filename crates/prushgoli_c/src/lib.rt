@@ -1,5 +1,5 @@
-// The archive for C: exports the calls of prushgoli under their names and with their clauses, and does nothing else. A slice passes as
-// pointer and length.
+// The archive for C: exports the calls of prushgoli under their names and with their clauses, and does nothing else: a crate is an archive
+// or a library that others can cite. A slice passes as pointer and length.
 #![tactic(auto)]
 
 ghost use Rattle.std.specs.Prelude.{◌≡◌, length};
