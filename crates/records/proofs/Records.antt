@@ -1,71 +1,22 @@
 -- What stands at an offset of a trace. Assumes nothing.
 --     record-end       nothing, from the trace's end on, or from byte 65,536
---     record-begun     else a record, whole or cut, or of no kind
---     payload-whole, field-whole    a body that ends within the trace, and before byte 65,536, makes a record
---     payload_cut, field_cut        one that does not is 14
+--     record-whole     a body that ends within the trace, and before byte 65,536, makes a record
+--     record-cut       one that does not is 14
+--     payload-whole, field-whole, payload_cut, field_cut    the same of each kind by itself
 --     RecordGiven      what holds where it is this
 --     record-given, given-record    that holds of what stands there, and of nothing else
---     Inside, record-inside         where a record lies
+--     Inside, record-inside, record-fits    where a record lies
 --     body-part        its body is the part of the trace between its kind byte and the next record
-use mathlib.Core.Path.{◌≡◌, refl, sym, ap, ◌∙◌, subst}
-use mathlib.Core.Bool.{Bool, true, false}
-use mathlib.Core.List.{List}
-use mathlib.Core.Logic.{◌⊎◌, inl, inr}
-use Prim.Native.Nat.{ℕ, ◌+◌, ◌-◌, ◌≤◌, ◌<◌, min}
-use native.Mathlib.Omega.{arith}
-use lib.Dec.{leb, ltb}
-use lib.ListN.{length, get_or, take, drop}
-use borrow.Author.Tests.{le-leb, lt-leb, lt-ltb, le-ltb, leb-true, leb-false, ltb-true, ltb-false}
+use Rattle.std.proofs.Common.{◌≡◌, ℕ, ◌+◌, ◌-◌, ◌≤◌, ◌<◌, min, Bool, true, false, List, length, get_or, take, drop, Option, Some, None, Result, Ok, Err, ◌⊎◌, inl, inr, refl, sym, ap, ◌∙◌, subst, arith}
+use Rattle.std.proofs.Math.Dec.{leb, ltb}
+use Rattle.std.proofs.lemmas.Bool.Decides.{nat_tests}
+use borrow.Author.Tests.{leb-true, leb-false, ltb-true, ltb-false}
+use Rattle.refusals.specs.declared.Refusal.{Refusal}
 use Rattle.refusals.specs.declared.Refusal.TheVariants as refusal
-use Rattle.records.specs.Records.{kind_of, record_of, record_at, body_at}
+use Rattle.records.specs.Records.{kind_of, body_of, record_of, record_at, body_at}
 use Rattle.records.specs.declared.Record.{Record}
-use Rattle.records.specs.declared.Record.TheVariants.{Payload, Field, End, Refused}
-use Rattle.records.specs.declared.kinds.Kind.{Kind}
-use Rattle.records.specs.declared.kinds.Kind.TheVariants as kind
+use Rattle.records.specs.declared.Record.TheVariants.{Payload, Field}
 use Rattle.records.proofs.KindBytes.{NoKind, KindGiven, given-kind, kind-given}
-
-pub record-end : (trace : List ℕ) (offset : ℕ) → min (length trace) 65536 ≤ offset → record_at trace offset ≡ End
-unfolding record_at
-record-end trace offset h = simp (le-leb _ _ h)
-
-module _ (trace : List ℕ) (offset : ℕ) (h : offset < min (length trace) 65536) where
-  -- how many bytes are behind the kind byte
-  left : ℕ
-  left = min (length trace) 65536 - offset - 1
-
-  pub record-begun : record_at trace offset ≡ record_of (kind_of (get_or trace offset 0)) (min (length trace) 65536 - offset - 1) offset
-  unfolding record_at
-  record-begun = simp (lt-leb _ _ h)
-
-  found : (k : Kind) → kind_of (get_or trace offset 0) ≡ k → record_at trace offset ≡ record_of k left offset
-  unfolding left
-  found k e = record-begun ∙ ap (λ (x : Kind). record_of x left offset) e
-
-  unknown : kind_of (get_or trace offset 0) ≡ kind.Unknown → record_at trace offset ≡ Refused (refusal.Record offset)
-  unknown e = found kind.Unknown e
-
-  module _ (body : ℕ) where
-    pub payload-whole : kind_of (get_or trace offset 0) ≡ kind.Payload body → offset + 1 + body ≤ min (length trace) 65536
-        → record_at trace offset ≡ Payload body
-    unfolding left
-    payload-whole e fits = found (kind.Payload body) e ∙ simp (le-ltb left body (omega arith))
-
-    pub field-whole : kind_of (get_or trace offset 0) ≡ kind.Field body → offset + 1 + body ≤ min (length trace) 65536
-        → record_at trace offset ≡ Field body
-    unfolding left
-    field-whole e fits = found (kind.Field body) e ∙ simp (le-ltb left body (omega arith))
-
-    pub payload_cut : kind_of (get_or trace offset 0) ≡ kind.Payload body → min (length trace) 65536 < offset + 1 + body
-        → record_at trace offset ≡ Refused (refusal.Record offset)
-    unfolding left
-    payload_cut e cut = found (kind.Payload body) e ∙ simp (lt-ltb left body (omega arith))
-
-    pub field_cut : kind_of (get_or trace offset 0) ≡ kind.Field body → min (length trace) 65536 < offset + 1 + body
-        → record_at trace offset ≡ Refused (refusal.Record offset)
-    unfolding left
-    field_cut e cut = found (kind.Field body) e ∙ simp (lt-ltb left body (omega arith))
-
--- ---- each exactly where
 
 module _ (trace : List ℕ) (offset : ℕ) where
   abbrev byte : ℕ
@@ -78,69 +29,95 @@ module _ (trace : List ℕ) (offset : ℕ) where
   abbrev pub Cut : ℕ → ℕ → Type 0
   Cut most first = (n : ℕ) × (n ≤ most) × (byte ≡ first + n) × (end < offset + 1 + n)
 
-  abbrev pub RecordGiven : Record → Type 0
-  RecordGiven (Payload n) = (offset + 1 + n ≤ end) × (n ≤ 8) × (byte ≡ 0x10 + n)
-  RecordGiven (Field n) = (offset + 1 + n ≤ end) × (n ≤ 9) × (byte ≡ 0x20 + n)
-  RecordGiven End = end ≤ offset
-  RecordGiven (Refused r) = (offset < end) × (r ≡ refusal.Record offset) × (NoKind byte ⊎ Cut 8 0x10 ⊎ Cut 9 0x20)
+  abbrev pub RecordGiven : Result (Option Record) Refusal → Type 0
+  RecordGiven (Ok (Some found)) = (offset + 1 + body_of found ≤ end) × KindGiven byte (Some found)
+  RecordGiven (Ok None) = end ≤ offset
+  RecordGiven (Err r) = (offset < end) × (r ≡ refusal.Record offset) × (NoKind byte ⊎ Cut 8 0x10 ⊎ Cut 9 0x20)
 
-  pub given-record : (r : Record) → RecordGiven r → record_at trace offset ≡ r
-  given-record (Payload n) h =
-      payload-whole trace offset (omega (arith, h.0)) n (given-kind byte (kind.Payload n) (h.1, h.2)) h.0
-  given-record (Field n) h = field-whole trace offset (omega (arith, h.0)) n (given-kind byte (kind.Field n) (h.1, h.2)) h.0
-  given-record End h = record-end trace offset h
-  given-record (Refused r) h = bad h.2 ∙ ap Refused (sym h.1)
+  pub record-end : end ≤ offset → record_at trace offset ≡ Ok None
+  unfolding record_at
+  record-end h = grind (arith, nat_tests)
+
+  begun : (k : Option Record) → offset < end → KindGiven byte k → record_at trace offset ≡ record_of k (end - offset - 1) offset
+  unfolding record_at
+  begun k h given = rw (given-kind byte k given) (grind (arith, nat_tests))
+
+  kind-is : {found : Record} → kind_of byte ≡ Some found → KindGiven byte (Some found)
+  kind-is e = subst (KindGiven byte) e (kind-given byte)
+
+  pub record-whole : (found : Record) → KindGiven byte (Some found) → offset + 1 + body_of found ≤ end → record_at trace offset ≡ Ok (Some found)
+  record-whole found k fits = begun (Some found) (omega (arith, fits)) k ∙ grind (arith, nat_tests)
+
+  pub record-cut : (found : Record) → KindGiven byte (Some found) → offset < end → end < offset + 1 + body_of found
+      → record_at trace offset ≡ Err (refusal.Record offset)
+  record-cut found k h short = begun (Some found) h k ∙ grind (arith, nat_tests)
+
+  module _ (h : offset < end) (body : ℕ) where
+    pub payload-whole : kind_of byte ≡ Some (Payload body) → offset + 1 + body ≤ end → record_at trace offset ≡ Ok (Some (Payload body))
+    payload-whole e = record-whole (Payload body) (kind-is e)
+
+    pub field-whole : kind_of byte ≡ Some (Field body) → offset + 1 + body ≤ end → record_at trace offset ≡ Ok (Some (Field body))
+    field-whole e = record-whole (Field body) (kind-is e)
+
+    pub payload_cut : kind_of byte ≡ Some (Payload body) → end < offset + 1 + body → record_at trace offset ≡ Err (refusal.Record offset)
+    payload_cut e = record-cut (Payload body) (kind-is e) h
+
+    pub field_cut : kind_of byte ≡ Some (Field body) → end < offset + 1 + body → record_at trace offset ≡ Err (refusal.Record offset)
+    field_cut e = record-cut (Field body) (kind-is e) h
+
+  pub given-record : (r : Result (Option Record) Refusal) → RecordGiven r → record_at trace offset ≡ r
+  given-record (Ok (Some found)) h = record-whole found h.1 h.0
+  given-record (Ok None) h = record-end h
+  given-record (Err r) h = bad h.2 ∙ ap Err (sym h.1)
     where
-      bad : NoKind byte ⊎ Cut 8 0x10 ⊎ Cut 9 0x20 → record_at trace offset ≡ Refused (refusal.Record offset)
-      bad (inl none) = unknown trace offset h.0 (given-kind byte kind.Unknown none)
-      bad (inr (inl (n, few, is, cut))) = payload_cut trace offset h.0 n (given-kind byte (kind.Payload n) (few, is)) cut
-      bad (inr (inr (n, few, is, cut))) = field_cut trace offset h.0 n (given-kind byte (kind.Field n) (few, is)) cut
+      bad : NoKind byte ⊎ Cut 8 0x10 ⊎ Cut 9 0x20 → record_at trace offset ≡ Err (refusal.Record offset)
+      bad (inl none) = begun None h.0 none
+      bad (inr (inl (n, few, is, short))) = record-cut (Payload n) (few, is) h.0 short
+      bad (inr (inr (n, few, is, short))) = record-cut (Field n) (few, is) h.0 short
 
-  given : (r : Record) → RecordGiven r → RecordGiven (record_at trace offset)
-  given r h = subst RecordGiven (sym (given-record r h)) h
+  why : (found : Record) → KindGiven byte (Some found) → end < offset + 1 + body_of found → Cut 8 0x10 ⊎ Cut 9 0x20
+  why (Payload n) k short = inl (n, k.0, k.1, short)
+  why (Field n) k short = inr (n, k.0, k.1, short)
 
   pub record-given : RecordGiven (record_at trace offset)
-  record-given = begun (leb end offset) refl
+  record-given = at-end (leb end offset) refl
     where
       here : Type 0
       here = RecordGiven (record_at trace offset)
 
-      by-body : (n : ℕ) → (end < offset + 1 + n → here) → (offset + 1 + n ≤ end → here) → (t : Bool) → ltb end (offset + 1 + n) ≡ t → here
-      by-body n cut whole true e = cut (ltb-true end (offset + 1 + n) e)
-      by-body n cut whole false e = whole (ltb-false end (offset + 1 + n) e)
+      given : (r : Result (Option Record) Refusal) → RecordGiven r → here
+      given r h = subst RecordGiven (sym (given-record r h)) h
 
-      bad : offset < end → NoKind byte ⊎ Cut 8 0x10 ⊎ Cut 9 0x20 → here
-      bad h why = given (Refused (refusal.Record offset)) (h, refl, why)
+      by-body : (found : Record) → KindGiven byte (Some found) → offset < end
+          → (t : Bool) → ltb end (offset + 1 + body_of found) ≡ t → here
+      by-body found k h true e = given (Err (refusal.Record offset)) (h, refl, inr (why found k (ltb-true end _ e)))
+      by-body found k h false e = given (Ok (Some found)) (ltb-false end _ e, k)
 
-      by_kind : offset < end → (k : Kind) → KindGiven byte k → here
-      by_kind h (kind.Payload n) k =
-          by-body n (λ cut. bad h (inr (inl (n, k.0, k.1, cut)))) (λ whole. given (Payload n) (whole, k.0, k.1)) (ltb end (offset + 1 + n)) refl
-      by_kind h (kind.Field n) k =
-          by-body n (λ cut. bad h (inr (inr (n, k.0, k.1, cut)))) (λ whole. given (Field n) (whole, k.0, k.1)) (ltb end (offset + 1 + n)) refl
-      by_kind h kind.Unknown k = bad h (inl k)
+      by-kind : offset < end → (k : Option Record) → KindGiven byte k → here
+      by-kind h (Some found) k = by-body found k h _ refl
+      by-kind h None k = given (Err (refusal.Record offset)) (h, refl, inl k)
 
-      begun : (t : Bool) → leb end offset ≡ t → here
-      begun true e = given End (leb-true end offset e)
-      begun false e = by_kind (leb-false end offset e) (kind_of byte) (kind-given byte)
+      at-end : (t : Bool) → leb end offset ≡ t → here
+      at-end true e = given (Ok None) (leb-true end offset e)
+      at-end false e = by-kind (leb-false end offset e) (kind_of byte) (kind-given byte)
 
 -- a whole record lies within the trace, and before byte 65,536; so does the kind byte of one that is refused, which is its place
-abbrev pub Inside : Record → List ℕ → ℕ → Type 0
-Inside (Payload body) trace offset = offset + 1 + body ≤ min (length trace) 65536
-Inside (Field body) trace offset = offset + 1 + body ≤ min (length trace) 65536
-Inside End trace offset = Unit {0}
-Inside (Refused r) trace offset = (offset < min (length trace) 65536) × (r ≡ refusal.Record offset)
+abbrev pub Inside : Result (Option Record) Refusal → List ℕ → ℕ → Type 0
+Inside (Ok (Some found)) trace offset = offset + 1 + body_of found ≤ min (length trace) 65536
+Inside (Ok None) trace offset = Unit {0}
+Inside (Err r) trace offset = (offset < min (length trace) 65536) × (r ≡ refusal.Record offset)
 
 pub record-inside : (trace : List ℕ) (offset : ℕ) → Inside (record_at trace offset) trace offset
 record-inside trace offset = go (record_at trace offset) (record-given trace offset)
   where
-    go : (r : Record) → RecordGiven trace offset r → Inside r trace offset
-    go (Payload body) h = h.0
-    go (Field body) h = h.0
-    go End h = tt
-    go (Refused r) h = (h.0, h.1)
+    go : (r : Result (Option Record) Refusal) → RecordGiven trace offset r → Inside r trace offset
+    go (Ok (Some found)) h = h.0
+    go (Ok None) h = tt
+    go (Err r) h = (h.0, h.1)
+
+pub record-fits : (trace : List ℕ) (offset : ℕ) (found : Record) → record_at trace offset ≡ Ok (Some found) → offset + 1 + body_of found ≤ length trace
+record-fits trace offset found e = omega (arith, rw e at (record-inside trace offset))
 
 pub body-part : (trace : List ℕ) (offset body : ℕ) → body_at trace offset body ≡ take (offset + 1 + body - (offset + 1)) (drop (offset + 1) trace)
 unfolding body_at
-body-part trace offset body =
-    let long : body ≡ offset + 1 + body - (offset + 1) = omega arith in
-    ap (λ (n : ℕ). take n (drop (offset + 1) trace)) long
+body-part trace offset body = grind arith

@@ -1,53 +1,47 @@
 // The records of a trace: one byte of kind, then a body whose length the kind fixes.
+//
+// No call here is one of std, as min and ? are: demands/Linked, `record-at-linked`, needs the code of each, and std gives none out.
 #![tactic(auto)]
 
-ghost use Rattle.std.specs.Prelude.{◌≡◌, min};
-ghost use Rattle.records.specs.Records.{most_bytes, whole_or_14, record_at};
+ghost use Rattle.std.specs.Prelude.{◌≡◌};
+ghost use Rattle.records.specs.Records.{record_at};
 
 mod kinds;
 
-use kinds::Kind;
 use refusals::Refusal;
 
-// What stands at an offset of a trace: a record, with the length of its body, which follows the kind byte; the trace's end; or a
-// refusal, which ends the reading. [14.1, 14.4, 14.6]
-#[derive(Clone, Copy)]
+// As many bytes of a trace as count. [14.3]
+pub const MOST_BYTES: usize = 65536;
+
+// A record, with the length of its body, which follows the kind byte. [14.1]
+#[derive(Clone, Copy, PartialEq, Eq, Debug)]
 pub enum Record {
     Payload(usize),
     Field(usize),
-    End,
-    Refused(Refusal),
 }
 
-// Reads the record at an offset. Bytes behind the first 65,536 are as if absent. Refused with 14: kind unknown, or body cut.
-pub fn record_at(trace: &[u8], offset: usize) -> Record
+// Reads the record at an offset; nothing stands at the trace's end. Bytes behind the first MOST_BYTES are as if absent. Refused with 14,
+// which ends the reading: kind unknown, or body cut. Trace and offset come apart, as document 02 has them. [14.3, 14.4, 14.6]
+#[tactic(auto, using(std::proofs::lemmas::Bool::Decides::nat_tests), unfolding(crate::specs::Records::record_at))]
+pub fn record_at(trace: &[u8], offset: usize) -> Result<Option<Record>, Refusal>
     ensures { result ≡ record_at trace.now offset }
 {
-    let end = covered(trace.len());
+    let length = trace.len();
+    // `min` calls std.
+    let end = if length < MOST_BYTES {
+        length
+    } else {
+        MOST_BYTES
+    };
     if end <= offset {
-        return Record::End;
+        return Ok(None);
     }
-    let left = end - offset - 1;
-    match kinds::of(trace[offset]) {
-        Kind::Payload(body) => whole(Record::Payload(body), body, left, offset),
-        Kind::Field(body) => whole(Record::Field(body), body, left, offset),
-        Kind::Unknown => Record::Refused(Refusal::Record(offset)),
+    let Some(record) = kinds::of(trace[offset]) else {
+        return Err(Refusal::Record(offset));
+    };
+    let (Record::Payload(body) | Record::Field(body)) = record;
+    if end - offset - 1 < body {
+        return Err(Refusal::Record(offset));
     }
-}
-
-// The record, if the body has not more bytes than are left.
-fn whole(found: Record, body: usize, left: usize, offset: usize) -> Record
-    ensures { result ≡ whole_or_14 found body left offset }
-{
-    if left < body {
-        return Record::Refused(Refusal::Record(offset));
-    }
-    found
-}
-
-// How many bytes of a trace of this length count.
-fn covered(length: usize) -> usize
-    ensures { result ≡ min length most_bytes }
-{
-    if length < 65536 { length } else { 65536 }
+    Ok(Some(record))
 }

@@ -1,18 +1,15 @@
--- The line of an answer, from the buffer that its result was written to. Assumes nothing.
+-- The line of a record's body, from the buffer that its result was written to. Assumes nothing.
 --     Whole           an accepted answer's length is that of the result, and at most 8
---     encoded-whole, decoded-whole    what coding and decoding answer
---     whole-held      the result stands at the start of the buffer
---     whole-text      so that the line is that of the result
-use mathlib.Core.Path.{◌≡◌, refl, sym, ap, ◌∙◌, subst}
-use mathlib.Core.List.{List}
-use Prim.Native.Nat.{ℕ, ◌≤◌, ◌<◌}
-use native.Mathlib.Omega.{arith}
-use lib.ListN.{length, drop, length-append}
-use lib.Seq.{take_at}
+--     coded-whole     what coding and decoding answer
+--     Coded           what they leave in a buffer
+--     coded-held      the result stands at the start of the buffer
+--     coded-shown     so that the line is that of the record
+use Rattle.std.proofs.Common.{◌≡◌, ℕ, ◌≤◌, ◌<◌, List, length, drop, Result, Ok, Err, refl, sym, ap, arith, length-append}
+use Rattle.std.specs.Result.{IfOk}
+use Rattle.std.proofs.Math.Seq.{take_at}
 use Rattle.refusals.specs.After.{after}
 use Rattle.refusals.specs.Table.{answer_numbers}
-use Rattle.refusals.specs.declared.Answer.{Answer}
-use Rattle.refusals.specs.declared.Answer.TheVariants.{Length, Refused}
+use Rattle.refusals.specs.declared.Refusal.{Refusal}
 use Rattle.field.specs.Field.{field_of}
 use Rattle.field.specs.Encode.{encode_answer}
 use Rattle.field.proofs.Small.{encode-small}
@@ -20,46 +17,67 @@ use Rattle.field.proofs.Lengths.{encode-result}
 use Rattle.decoding.specs.Decode.{decode_answer, payload_of}
 use Rattle.decoding.proofs.Small.{decode-small}
 use Rattle.decoding.proofs.Lengths.{decode-result}
-use Rattle.report.specs.Report.{outcome_text}
+use Rattle.records.specs.declared.Record.{Record}
+use Rattle.records.specs.declared.Record.TheVariants as found
 use Rattle.report.specs.Writing.{Holds, held_in}
+use Rattle.report.specs.Report.{outcome_text, encoded_text, decoded_text, coded_text}
 
-abbrev pub Whole : Answer → List ℕ → Type 0
-Whole (Length n) result = (n ≡ length result) × (n ≤ 8)
-Whole (Refused refusal) result = Unit {0}
+abbrev pub Whole : Result ℕ Refusal → List ℕ → Type 0
+Whole a result = IfOk a (λ n. (n ≡ length result) × (n ≤ 8))
 
-whole : (a : Answer) (result : List ℕ) (k : ℕ) → k ≤ 9 → (answer_numbers a).low < k → ((n : ℕ) → a ≡ Length n → n ≡ length result)
+whole : (a : Result ℕ Refusal) (result : List ℕ) (k : ℕ) → k ≤ 9 → (answer_numbers a).low < k → ((n : ℕ) → a ≡ Ok n → n ≡ length result)
     → Whole a result
-whole (Length n) result k h small is = (is n refl, omega (arith, h, small))
-whole (Refused refusal) result k h small is = tt
+whole (Ok n) result k h small is = (is n refl, omega (arith, h, small))
+whole (Err refusal) result k h small is = tt
 
-pub encoded-whole : (payload : List ℕ) → Whole (encode_answer payload 8) (field_of payload)
-encoded-whole payload =
-    whole (encode_answer payload 8) (field_of payload) 9 (omega arith) (encode-small payload 8) (encode-result payload 8)
+-- the letter of a record, the answer and the result
+abbrev pub letter_of : Record → ℕ
+letter_of (found.Payload n) = 0x45
+letter_of (found.Field n) = 0x44
 
-pub decoded-whole : (field : List ℕ) → Whole (decode_answer field 8) (payload_of field)
-decoded-whole field =
-    whole (decode_answer field 8) (payload_of field) 8 (omega arith) (decode-small field 8) (decode-result field 8)
+abbrev pub coded_answer : Record → List ℕ → Result ℕ Refusal
+coded_answer (found.Payload n) body = encode_answer body 8
+coded_answer (found.Field n) body = decode_answer body 8
 
-held : (a : Answer) (result old : List ℕ) → Whole a result → Holds a (after (answer_numbers a) result old)
-held (Length n) result old w = (w.1, omega (arith, w.0, length-append result (drop (length result) old)))
-held (Refused refusal) result old w = tt
+abbrev pub coded_result : Record → List ℕ → List ℕ
+coded_result (found.Payload n) = field_of
+coded_result (found.Field n) = payload_of
 
-same_text : (number letter : ℕ) (a : Answer) (result old : List ℕ) → Whole a result
-    → outcome_text number letter a (held_in a (after (answer_numbers a) result old)) ≡ outcome_text number letter a result
-unfolding outcome_text
-same_text number letter (Length n) result old w =
-    ap (outcome_text number letter (Length n)) (take_at result (drop (length result) old) n (sym w.0))
-same_text number letter (Refused refusal) result old w = refl
+pub coded-whole : (r : Record) (body : List ℕ) → Whole (coded_answer r body) (coded_result r body)
+coded-whole (found.Payload n) body = whole (encode_answer body 8) (field_of body) 9 (omega arith) (encode-small body 8) (encode-result body 8)
+coded-whole (found.Field n) body = whole (decode_answer body 8) (payload_of body) 8 (omega arith) (decode-small body 8) (decode-result body 8)
 
-module _ (a expected : Answer) (result old bytes : List ℕ) (e : a ≡ expected) (left : bytes ≡ after (answer_numbers a) result old) (w : Whole expected result) where
-  whole-given : Whole a result
-  whole-given = subst (λ (x : Answer). Whole x result) (sym e) w
+pub coded-is : (r : Record) (number : ℕ) (body : List ℕ)
+    → coded_text r number body ≡ outcome_text number (letter_of r) (coded_answer r body) (coded_result r body)
+unfolding encoded_text decoded_text
+coded-is (found.Payload n) number body = refl
+coded-is (found.Field n) number body = refl
 
-  pub whole-held : Holds a bytes
-  whole-held = subst (Holds a) (sym left) (held a result old whole-given)
+-- what coding a record's body leaves in a buffer
+pub record Coded (r : Record) (body : List ℕ) (letter : ℕ) (a : Result ℕ Refusal) (bytes : List ℕ) : Type 0 where
+  pub letter-is : letter ≡ letter_of r
+  pub answer-is : a ≡ coded_answer r body
+  pub old : List ℕ
+  pub left : bytes ≡ after (answer_numbers a) (coded_result r body) old
 
-  pub whole-text : (number letter : ℕ) → outcome_text number letter a (held_in a bytes) ≡ outcome_text number letter expected result
-  whole-text number letter =
-      ap (λ (l : List ℕ). outcome_text number letter a (held_in a l)) left
-      ∙ same_text number letter a result old whole-given
-      ∙ ap (λ (x : Answer). outcome_text number letter x result) e
+module _ (r : Record) (body : List ℕ) (letter : ℕ) (a : Result ℕ Refusal) (bytes : List ℕ) (k : Coded r body letter a bytes) where
+  given : Whole a (coded_result r body)
+  given = rw k.answer-is (coded-whole r body)
+
+  pub coded-held : Holds a bytes
+  coded-held = rw k.left (held a given)
+    where
+      held : (b : Result ℕ Refusal) → Whole b (coded_result r body) → Holds b (after (answer_numbers b) (coded_result r body) k.old)
+      held (Ok n) w = (w.1, omega (arith, w.0, length-append (coded_result r body) (drop (length (coded_result r body)) k.old)))
+      held (Err refusal) w = tt
+
+  pub coded-shown : (number : ℕ) → outcome_text number letter a (held_in a bytes) ≡ coded_text r number body
+  unfolding outcome_text
+  coded-shown number = rw (coded-is r number body, ← k.letter-is, ← k.answer-is, k.left) (shown a given)
+    where
+      shown : (b : Result ℕ Refusal) → Whole b (coded_result r body)
+          → outcome_text number letter b (held_in b (after (answer_numbers b) (coded_result r body) k.old))
+          ≡ outcome_text number letter b (coded_result r body)
+      shown (Ok n) w =
+          ap (outcome_text number letter (Ok n)) (take_at (coded_result r body) (drop (length (coded_result r body)) k.old) n (sym w.0))
+      shown (Err refusal) w = refl

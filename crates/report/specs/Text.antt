@@ -1,4 +1,5 @@
 -- The text of a report: bytes in ASCII. Assumes nothing.
+use Rattle.std.specs.List.{flat_map}
 use Rattle.std.specs.Prelude.{ℕ, zero, suc, ◌+◌, ◌-◌, ◌/◌, ◌%◌, cond, List, [], ◌∷◌, ◌++◌, ltb}
 
 -- three characters [15.1, 15.6, 15.8]
@@ -33,9 +34,8 @@ abbrev pub hex_byte : ℕ → List ℕ
 hex_byte byte = hex_digit (byte / 16) ∷ hex_digit (byte % 16) ∷ []
 
 -- bytes in hexadecimal, without spaces [15.5]
-unfoldable pub hex : List ℕ → List ℕ
-hex [] = []
-hex (byte ∷ l) = hex_byte byte ++ hex l
+abbrev pub hex : List ℕ → List ℕ
+hex = flat_map hex_byte
 
 -- bytes in hexadecimal, or a dash for none [15.6]
 unfoldable pub bytes_text : List ℕ → List ℕ

@@ -1,68 +1,83 @@
-// Numbers and bytes as text. Each function writes at a place of the text, and answers the place behind what it wrote.
-ghost use Rattle.std.specs.Prelude.{◌≡◌, [], ◌∷◌, ◌+◌, ◌≤◌, ◌<◌, length};
+// A text that is being written, in ASCII: numbers and bytes.
+ghost use Rattle.std.specs.Prelude.{◌≡◌, [], ◌∷◌, ◌+◌, ◌*◌, ◌≤◌, ◌<◌, length};
 ghost use Rattle.report.specs.Text.{decimal, spaced, hex_digit, hex_byte, bytes_text};
-ghost use Rattle.report.specs.Writing.{Wrote};
+ghost use Rattle.report.specs.Writing.{Wrote, HasRoom};
 
-// A number in decimal, and a space behind it.
-pub(crate) fn spaced(n: usize, at: usize, text: &mut [u8]) -> usize
-    requires { at + 21 ≤ length text.old }
-    ensures { Wrote (spaced n) at text.old text.new result }
-{
-    let end = decimal(n, at, text);
-    text[end] = b' ';
-    end + 1
+// The bytes that it is written to, and where what is written ends. How much room it needs is asked for at each call, and is no invariant:
+// it depends on what is yet to be written.
+#[derive(Drop)]
+pub(crate) struct Text<'a> {
+    bytes: &'a mut [u8],
+    end: usize,
 }
 
-// A number in decimal.
-fn decimal(n: usize, at: usize, text: &mut [u8]) -> usize
-    requires { at + length (decimal n) ≤ length text.old }
-    ensures { Wrote (decimal n) at text.old text.new result }
-{
-    if n < 10 {
-        return digit(n, at, text);
+impl<'a> Text<'a> {
+    pub(crate) fn new(bytes: &'a mut [u8]) -> Text<'a>
+        ensures same { result.bytes.ghost_name ≡ bytes.entry.ghost_name }
+        ensures bytes { result.bytes.now ≡ bytes.old }
+        ensures end { result.end ≡ 0 }
+    {
+        Text { bytes, end: 0 }
     }
-    let end = decimal(n / 10, at, text);
-    digit(n % 10, end, text)
-}
 
-// A decimal digit.
-fn digit(digit: usize, at: usize, text: &mut [u8]) -> usize
-    requires { (digit < 10) × (at < length text.old) }
-    ensures { Wrote ((0x30 + digit) ∷ []) at text.old text.new result }
-{
-    text[at] = b'0' + digit as u8;
-    at + 1
-}
-
-// Bytes in hexadecimal, or a dash for none.
-pub(crate) fn bytes(bytes: &[u8], at: usize, text: &mut [u8]) -> usize
-    requires { at + length (bytes_text bytes.now) ≤ length text.old }
-    ensures { Wrote (bytes_text bytes.now) at text.old text.new result }
-{
-    if bytes.len() == 0 {
-        text[at] = b'-';
-        return at + 1;
+    // How many bytes are written.
+    pub(crate) fn length(&self) -> usize
+        ensures { result ≡ self.now.end }
+    {
+        self.end
     }
-    let mut end = at;
-    let mut i = 0;
-    while i < bytes.len() {
-        end = byte(bytes[i], end, text);
-        i += 1;
-    }
-    end
-}
 
-// A byte in hexadecimal.
-fn byte(byte: u8, at: usize, text: &mut [u8]) -> usize
-    requires { at + 2 ≤ length text.old }
-    ensures { Wrote (hex_byte byte) at text.old text.new result }
-{
-    text[at] = hex_digit(byte / 16);
-    text[at + 1] = hex_digit(byte % 16);
-    at + 2
+    // A byte as it is.
+    pub(crate) fn byte(&mut self, byte: u8)
+        requires { HasRoom 1 self.old }
+        ensures { Wrote (byte ∷ []) self.old self.new }
+    {
+        self.bytes[self.end] = byte;
+        self.end += 1;
+    }
+
+    // A number in decimal, and a space behind it.
+    pub(crate) fn spaced(&mut self, n: usize)
+        requires { HasRoom 21 self.old }
+        ensures written { Wrote (spaced n) self.old self.new }
+        ensures short { self.new.end ≤ self.old.end + 21 }
+    {
+        self.decimal(n);
+        self.byte(b' ');
+    }
+
+    // A number in decimal. This and the hexadecimal digits are by hand, since std's write! says what it wrote only where it succeeds, and
+    // never that it does.
+    fn decimal(&mut self, n: usize)
+        requires { HasRoom (length (decimal n)) self.old }
+        ensures { Wrote (decimal n) self.old self.new }
+    {
+        if 10 <= n {
+            self.decimal(n / 10);
+        }
+        self.byte(b'0' + (n % 10) as u8);
+    }
+
+    // Bytes in hexadecimal, or a dash for none.
+    pub(crate) fn bytes(&mut self, bytes: &[u8])
+        requires { HasRoom (2 * length bytes.now + 1) self.old }
+        ensures written { Wrote (bytes_text bytes.now) self.old self.new }
+        ensures short { self.new.end ≤ self.old.end + 2 * length bytes.now + 1 }
+    {
+        // `is_empty` calls std.
+        if bytes.len() == 0 {
+            self.byte(b'-');
+        } else {
+            for byte in bytes {
+                self.byte(hex_digit(byte / 16));
+                self.byte(hex_digit(byte % 16));
+            }
+        }
+    }
 }
 
 // A hexadecimal digit.
+#[tactic(auto, using(std::proofs::lemmas::Bool::Decides::nat_tests), unfolding(crate::specs::Text::hex_digit))]
 fn hex_digit(digit: u8) -> u8
     requires { digit < 16 }
     ensures { result ≡ hex_digit digit }

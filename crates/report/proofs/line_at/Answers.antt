@@ -1,68 +1,57 @@
--- `report::line_at` meets its contract: what stands at the offset decides the line. Assumes nothing.
-use mathlib.Core.Path.{◌≡◌, refl, sym, ap, ◌∙◌, subst}
-use native.Mathlib.Omega.{arith}
-use Rattle.records.specs.declared.Record.{Record}
-use Rattle.records.proofs.Records.{Inside, record-inside, body-part}
-use Rattle.report.specs.Report.{encoded_text, decoded_text}
-use Rattle.report.proofs.Reports.{reported-short, outcome-most, encoded-most, decoded-most, reported-line, reported-end}
+-- What stands at the offset decides the line.
+use Rattle.std.proofs.Common.{◌≡◌, ◌+◌, ◌≤◌, length, refl, sym, ap, ◌∙◌, arith}
+use Rattle.records.specs.Records.{body_of}
+use Rattle.records.proofs.Records.{record-fits, body-part}
+use Rattle.report.specs.Report.{coded_text, outcome_text}
+use Rattle.report.proofs.Reports.{Said, record-said}
 use Rattle.report.proofs.line_at.Goals as goal
-use Rattle.report.proofs.line_at.Goals.{After-record_at}
+use Rattle.report.proofs.line_at.Goals.{Joined-record_at, Joined-record, In-Ok-Some, in-Err, in-Ok-Some}
 
-pub returns-then-text-lt-LINE_ROOM : goal.returns-then-text-lt-LINE_ROOM
-returns-then-text-lt-LINE_ROOM c =
-    record {
-      answer = sym (reported-short _ _ _ _ c.if-text-lt-LINE_ROOM.true);
-      memory = refl;
-    }
+-- the record that was found lies within the trace
+inside : (c : In-Ok-Some) → c.args.offset + 1 + body_of c.in-Ok-Some.record ≤ length c.args.trace.now
+inside c = record-fits _ _ _ (sym (rw c.in-Ok-Some.field-0-is at c.in-Ok-Some.ensures))
 
--- what stands at the offset lies within the trace
-inside : (c : After-record_at) (r : Record) → c.record_at.result ≡ r →
-    let args = c.args in
-    Inside r args.trace.now args.offset
-inside c r e =
-    let args = c.args in
-    subst (λ (x : Record). Inside x args.trace.now args.offset) (sym c.record_at.ensures ∙ e) (record-inside _ _)
+body : (c : Joined-record) → c.match-record.body ≡ body_of c.in-Ok-Some.record
+body c = grind arith
 
 pub overflow_add-start : goal.overflow_add-start
-overflow_add-start c = omega (arith, inside (goal.at.overflow_add-start c).After-record_at _ c.in-Payload.is)
+overflow_add-start c = omega (arith, inside (goal.at.overflow_add-start c).In-Ok-Some)
 
 pub overflow_add-next : goal.overflow_add-next
-overflow_add-next c = omega (arith, inside (goal.at.overflow_add-next c).After-record_at _ c.in-Payload.is)
+overflow_add-next c =
+    let at = goal.at.overflow_add-next c in
+    omega (arith, body at.Joined-record, inside at.In-Ok-Some)
 
-pub slice_bounds-encoded-end : goal.slice_bounds-encoded-end
-slice_bounds-encoded-end c = omega (arith, inside (goal.at.slice_bounds-encoded-end c).After-record_at _ c.in-Payload.is)
+pub slice_bounds-coded-end : goal.slice_bounds-coded-end
+slice_bounds-coded-end c =
+    let at = goal.at.slice_bounds-coded-end c in
+    omega (arith, body at.Joined-record, inside at.In-Ok-Some)
 
-pub overflow_add-start-in-Field : goal.overflow_add-start-in-Field
-overflow_add-start-in-Field c = omega (arith, inside (goal.at.overflow_add-start-in-Field c).After-record_at _ c.in-Field.is)
+said : (c : Joined-record_at) → Said c.args.trace.now c.args.offset c.args.number c.new-line.result c.match-record_at.line c.match-record_at.next
+unfolding outcome_text
+said c =
+    let new = c.new-line.ensures in
+    let room = rw (← new.bytes) at c.if-text-lt-LINE_ROOM.false in
+    elim c.match-record_at.branch [
+      | in-Ok-Some w ↦
+          let found = sym (rw w.in-Ok-Some.field-0-is at w.in-Ok-Some.ensures) in
+          let same : w.match-record.record ≡ w.in-Ok-Some.record = grind arith in
+          let long : w.match-record.body ≡ body_of w.in-Ok-Some.record = grind arith in
+          rw (w.line-is, w.next-is, long)
+          (record-said _ _ _ _ _ _ _ _ room new.end found (ap (coded_text w.in-Ok-Some.record c.args.number) (sym (rw long (body-part _ _ _)))) (λ k. refl) (rw same at w.coded.ensures))
+      | in-Err w ↦
+          let found = sym c.record_at.ensures ∙ w.in-Err.is in
+          rw (w.line-is, w.next-is) (record-said _ _ _ _ _ _ _ _ room new.end found refl (λ k. refl) w.line.ensures)
+    ]
 
-pub overflow_add-next-in-Field : goal.overflow_add-next-in-Field
-overflow_add-next-in-Field c = omega (arith, inside (goal.at.overflow_add-next-in-Field c).After-record_at _ c.in-Field.is)
+pub returns-clause-memory : goal.returns-clause-memory
+returns-clause-memory c =
+    let s = said (goal.at.returns-clause-memory c).Joined-record_at in
+    let same = s.same in
+    let row = rw c.new-line.ensures.bytes at s.bytes-are in
+    grind arith
 
-pub slice_bounds-decoded-end : goal.slice_bounds-decoded-end
-slice_bounds-decoded-end c = omega (arith, inside (goal.at.slice_bounds-decoded-end c).After-record_at _ c.in-Field.is)
-
-pub returns-in-Payload : goal.returns-in-Payload
-returns-in-Payload c =
-    let both = reported-line c.args.trace.now c.args.offset c.args.number _ _ _ _ _ _ c.if-text-lt-LINE_ROOM.false
-    (sym c.record_at.ensures ∙ c.in-Payload.is) (ap (encoded_text c.args.number) (body-part c.args.trace.now c.args.offset c.in-Payload.body)) (encoded-most _ _) (λ k. refl)
-    c.encoded.ensures in
-    record { answer = both.0; memory = both.1 }
-
-pub returns-in-Field : goal.returns-in-Field
-returns-in-Field c =
-    let both = reported-line c.args.trace.now c.args.offset c.args.number _ _ _ _ _ _ c.if-text-lt-LINE_ROOM.false
-    (sym c.record_at.ensures ∙ c.in-Field.is) (ap (decoded_text c.args.number) (body-part c.args.trace.now c.args.offset c.in-Field.body)) (decoded-most _ _) (λ k. refl)
-    c.decoded.ensures in
-    record { answer = both.0; memory = both.1 }
-
-pub returns-in-Refused : goal.returns-in-Refused
-returns-in-Refused c =
-    let both = reported-line c.args.trace.now c.args.offset c.args.number _ _ _ _ _ _ c.if-text-lt-LINE_ROOM.false
-    (sym c.record_at.ensures ∙ c.in-Refused.is) refl (outcome-most _ _ _ _ tt) (λ k. refl)
-    c.outcome.ensures in
-    record { answer = both.0; memory = both.1 }
-
-pub returns-in-End : goal.returns-in-End
-returns-in-End c =
-    let both = reported-end _ _ _ _ c.if-text-lt-LINE_ROOM.false (sym c.record_at.ensures ∙ c.in-End.is) in
-    record { answer = both.0; memory = both.1 }
+pub returns-clause-answer : goal.returns-clause-answer
+returns-clause-answer c =
+    let s = said (goal.at.returns-clause-answer c).Joined-record_at in
+    rw (c.length.ensures, ← c.new-line.ensures.bytes) s.answer-is
