@@ -2,15 +2,22 @@
 has every call in Rattle with its signature, and every crate with those that it knows. Of CHANGES.md: a note begins with two sentences
 for users, and has no table."""
 import re
+from itertools import takewhile
 
 from definitions.contracts import calls
 from texts import NAME, ROOT, complain, headings, plain, read, seen
 
 
+def signature(call):
+    """What stands before the clauses, in one line where `rt fmt` makes more of it."""
+    lines = takewhile(lambda line: not re.match(r" +(ensures|requires)\b", line), call.code)
+    return " ".join(line.strip() for line in lines).replace("( ", "(").replace(", )", ")")
+
+
 def developed(document):
     """The calls in Rattle, each with its signature; the crates, each with those that it knows."""
     text = read(document)
-    there = {call.name + call.code[0].split(f"fn {call.name.split('::')[-1]}")[1]
+    there = {call.name + signature(call).split(f"fn {call.name.split('::')[-1]}")[1]
              for call in calls(ROOT) if not call.name.startswith("prushgoli::")}
     named = {name for row in re.findall(r"^\| (`.*?`) \| ", text, re.MULTILINE) for name in re.findall(r"`(\w+::[^`]*)`", row)}
     for name in sorted(there ^ named):
