@@ -14,11 +14,17 @@ def record(folder, step, pattern):
     return re.findall(pattern, (folder / step).read_text(encoding="utf-8"), re.MULTILINE)
 
 
+def functions_in(path):
+    """Those that are written, without a trait's own, which have no body, and those of a derived PartialEq or Debug."""
+    text = re.sub(r"^(pub(\(crate\))? )?trait .*?^}$", "", path.read_text(encoding="utf-8"), flags=re.MULTILINE | re.DOTALL)
+    derived = " ".join(re.findall(r"#\[derive.*", text))
+    return len(re.findall(r"^[^/\n]*\bfn \w+[(<]", text, re.MULTILINE)) + len(re.findall(r"\b(PartialEq|Debug)\b", derived))
+
+
 def check_gate(page, folder):
     edits, = record(folder, "ci", r"^rt: ok; .*; must-fail edits: (\d+) refused(?:, \d+ of them only by a limit)?; ")
     crates = len(record(folder, "ci", r"^rt: (\w+)(?: proved$| is kept: )"))
-    functions = sum(len(re.findall(r"^[^/\n]*\bfn \w+[(<]", path.read_text(encoding="utf-8"), re.MULTILINE))
-                    for path in Path("crates").glob("*/src/**/*.rt"))
+    functions = sum(map(functions_in, Path("crates").glob("*/src/**/*.rt")))
     (comparisons, differences), = record(folder, "compare", r"^compare: (\d+) comparisons, (\d+) differences$")
     said = {
         "gate-crates": crates, "gate-edits": edits, "gate-comparisons": comparisons, "gate-differences": differences,
