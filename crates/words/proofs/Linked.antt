@@ -37,7 +37,7 @@ module _ (program : World) (here : Holds program "words" table) (below : Below p
   has-word_list-list = word_list-list.has (in_world program) true (link.found-words::word_list::list program here) has-word_list-in_place
 
   pub has-word : HasT (in_world program) true word.code
-  has-word = word.has (in_world program) true (link.found-words::word program here) has-word_in has-word_list-in_place
+  has-word = word.has (in_world program) true (link.found-words::word program here) has-word_in has-word_list-list
 
   has-reverse_list-in_place : HasT (in_world program) true reverse_list-in_place.code
   has-reverse_list-in_place = reverse_list-in_place.has (in_world program) true (link.found-words::reverse_list::in_place program here)
@@ -64,7 +64,7 @@ module _ (program : World) (here : Holds program "words" table) (below : Below p
   has-short_list-list = short_list-list.has (in_world program) true (link.found-words::short_list::list program here) has-short_list-in_place
 
   pub has-carried : HasT (in_world program) true carried.code
-  has-carried = carried.has (in_world program) true (link.found-words::carried program here) has-entry_in has-short_list-in_place
+  has-carried = carried.has (in_world program) true (link.found-words::carried program here) has-entry_in has-short_list-list
 
   pub has-is_escape : HasT (in_world program) true is_escape.code
   has-is_escape = is_escape.has (in_world program) true (link.found-words::is_escape program here)

@@ -23,7 +23,7 @@ pub enum Symbol {
 pub fn word(x: u8) -> u16
     ensures { result ≡ word_of x }
 {
-    word_in(word_list::in_place(), x)
+    word_in(&word_list::list(), x)
 }
 
 // What stands for byte x in a word list that the caller lends.
@@ -77,7 +77,7 @@ pub fn entry_in(list: &[u8; 512], nine: u16) -> u8
 pub fn carried(nine: u16) -> Option<u8>
     ensures { result ≡ carried (symbol_of nine) }
 {
-    let entry = entry_in(short_list::in_place(), nine);
+    let entry = entry_in(&short_list::list(), nine);
     if 127 < entry {
         return None;
     }

@@ -525,7 +525,7 @@ pub(crate) fn in_place() -> &'static [u8; 512]
     &ENTRIES
 }
 
-// A copy of the list, for a caller that lends it: `short-list-settled` in demands is about it.
+// The list, for a caller that lends it. It is read where it lies: the compiler makes no copy of it.
 pub fn list() -> [u8; 512]
     ensures { result ≡ short_list }
 {

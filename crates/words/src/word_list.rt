@@ -268,7 +268,7 @@ pub(crate) fn in_place() -> &'static [u16; 256]
     &WORDS
 }
 
-// A copy of the list, for a caller that lends it: `word-list-settled` in demands is about it.
+// The list, for a caller that lends it. It is read where it lies: the compiler makes no copy of it.
 pub fn list() -> [u16; 256]
     ensures { result ≡ word_list }
 {

@@ -7,11 +7,11 @@ use Rattle.words.proofs.carried.Goals as goal
 
 pub returns-then-entry-gt127 : goal.returns-then-entry-gt127
 returns-then-entry-gt127 c =
-    let entry = rw c.in_place.ensures at c.entry_in-entry.ensures in
+    let entry = rw c.list.ensures at c.entry_in-entry.ensures in
     sym (short_none c.args.nine (rw entry at c.if-entry-gt127.true))
 
 pub returns : goal.returns
 returns c =
-    let entry = rw c.in_place.ensures at c.entry_in-entry.ensures in
+    let entry = rw c.list.ensures at c.entry_in-entry.ensures in
     let few = rw entry at c.if-entry-gt127.false in
     rw entry (sym (ap carried (short-byte c.args.nine (omega (arith, few)))))

@@ -5,4 +5,4 @@ use Rattle.words.proofs.Lists.{word-list-at}
 use Rattle.words.proofs.word.Goals as goal
 
 pub returns : goal.returns
-returns c = c.word_in.ensures ∙ rw c.in_place.ensures (word-list-at _ (search rules))
+returns c = c.word_in.ensures ∙ rw c.list.ensures (word-list-at _ (search rules))
