@@ -13,7 +13,7 @@ use Rattle.field.proofs.TheLinks.field-table-row_of as table-row_of
 use Rattle.field.proofs.TheLinks.field-encoding-with_words as encoding-with_words
 use Rattle.field.proofs.TheLinks.field-encoding-sized as encoding-sized
 use Rattle.field.proofs.TheLinks.field-encoding-code as encoding-code
-use Rattle.field.proofs.TheLinks.field-storing-store as storing-store
+use Rattle.field.proofs.TheLinks.field-storing-sized as storing-sized
 use Rattle.field.proofs.TheLinks.field-encode as encode
 
 abbrev pub table : Tree
@@ -41,8 +41,8 @@ module _ (program : World) (here : Holds program "field" table) (below : Below p
   pub has-encoding-code : HasT (in_world program) true encoding-code.code
   has-encoding-code = encoding-code.has (in_world program) true (link.found-field::encoding::code program here) has-encoding-sized
 
-  has-storing-store : HasT (in_world program) true storing-store.code
-  has-storing-store = storing-store.has (in_world program) true (link.found-field::storing::store program here) below.0
+  has-storing-sized : HasT (in_world program) true storing-sized.code
+  has-storing-sized = storing-sized.has (in_world program) true (link.found-field::storing::sized program here) below.0 has-encoding-sized
 
   pub has-encode : HasT (in_world program) true encode.code
-  has-encode = encode.has (in_world program) true (link.found-field::encode program here) has-encoding-code has-storing-store
+  has-encode = encode.has (in_world program) true (link.found-field::encode program here) has-storing-sized

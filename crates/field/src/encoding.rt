@@ -14,8 +14,9 @@ pub struct Coded {
     pub number: u64,
 }
 
-// Codes a payload, and stores nothing. Refused with 1. Of a value no const parameter is made but by a match; `decode_number`
-// and `storing::store` have matches of their own, on a length.
+// Codes a payload, and stores nothing. Refused with 1. Of a value no const parameter is made but by a match; `encode` and `decode_number`
+// have matches of their own. Not inlined: a frame's line and its length share it.
+#[inline(never)]
 pub fn code(payload: &[u8]) -> Result<Coded, Refusal>
     ensures { result ≡ coded payload.now }
 {
@@ -33,7 +34,7 @@ pub fn code(payload: &[u8]) -> Result<Coded, Refusal>
 }
 
 // Codes a payload whose size the compiler knows. No type bounds a const parameter: a clause does.
-fn sized<const SIZE: usize>(payload: &[u8]) -> Coded
+pub(crate) fn sized<const SIZE: usize>(payload: &[u8]) -> Coded
     requires { (length payload.now ≡ SIZE) × (SIZE < 8) }
     ensures { Ok result ≡ coded payload.now }
 {

@@ -1,24 +1,25 @@
-// Storing a field.
-ghost use Rattle.std.specs.Prelude.{◌≡◌};
-ghost use Rattle.bits.specs.Loading.{stored};
+// Coding a payload into a lent buffer.
+ghost use Rattle.std.specs.Prelude.{◌≡◌, ◌<◌, length};
+ghost use Rattle.refusals.specs.Table.{answer_numbers};
+ghost use Rattle.refusals.specs.After.{after};
+ghost use Rattle.field.specs.Field.{field_of};
+ghost use Rattle.field.specs.Encode.{encode_answer};
 
-use crate::encoding::Coded;
+use crate::encoding;
 use bits::bytes;
+use refusals::Refusal;
 
-// At the start of a buffer with room for it. The count of each field that has bytes is a literal, so that the compiler unrolls the loop
-// over them: else encoding misses its bars at sizes 1, 2 and 7.
-pub(crate) fn store(coded: Coded, field: &mut [u8])
-    ensures memory { field.new ≡ stored coded.number coded.n field.old }
+// Codes a payload whose size the compiler knows, and with it the count of the bytes that are stored. No type bounds a const parameter: a
+// clause does.
+pub(crate) fn sized<const SIZE: usize>(payload: &[u8], field: &mut [u8]) -> Result<usize, Refusal>
+    requires { (length payload.now ≡ SIZE) × (SIZE < 8) }
+    ensures answer { result ≡ encode_answer payload.now (length field.old) }
+    ensures memory { field.new ≡ after (answer_numbers result) (field_of payload.now) field.old }
 {
-    let number = coded.number;
-    match coded.n {
-        2 => bytes::store(number, 2, field),
-        3 => bytes::store(number, 3, field),
-        4 => bytes::store(number, 4, field),
-        5 => bytes::store(number, 5, field),
-        6 => bytes::store(number, 6, field),
-        7 => bytes::store(number, 7, field),
-        8 => bytes::store(number, 8, field),
-        n => bytes::store(number, n, field),
+    let coded = encoding::sized::<SIZE>(payload);
+    if field.len() < coded.n {
+        return Err(Refusal::RoomShort);
     }
+    bytes::store(coded.number, coded.n, field);
+    Ok(coded.n)
 }
