@@ -28,10 +28,11 @@ impl<'a> Reader<'a> {
         let seen = self.seen;
         let place = seen.place;
         let bit = line[place] as u64;
-        if 1 < bit {
-            return Err(Refusal::LineByte(place));
-        }
-        if bit == seen.raw % 2 {
+        // Right is the other value alone: one test, and which refusal it is behind it.
+        if bit + seen.raw % 2 != 1 {
+            if 1 < bit {
+                return Err(Refusal::LineByte(place));
+            }
             return Err(Refusal::StuffBit(place));
         }
         if line.len() <= place + 1 {
