@@ -13,6 +13,7 @@ use Rattle.report.proofs.TheLink as link
 use Rattle.report.proofs.TheLinks.report-text-Text-new as text-Text-new
 use Rattle.report.proofs.TheLinks.report-text-Text-length as text-Text-length
 use Rattle.report.proofs.TheLinks.report-text-Text-byte as text-Text-byte
+use Rattle.report.proofs.TheLinks.report-text-Text-digit as text-Text-digit
 use Rattle.report.proofs.TheLinks.report-text-Text-decimal as text-Text-decimal
 use Rattle.report.proofs.TheLinks.report-text-Text-spaced as text-Text-spaced
 use Rattle.report.proofs.TheLinks.report-text-hex_digit as text-hex_digit
@@ -42,8 +43,11 @@ module _ (program : World) (here : Holds program "report" table) (below : Below 
   has-text-Text-byte : HasT (in_world program) true text-Text-byte.code
   has-text-Text-byte = text-Text-byte.has (in_world program) true (link.found-report::text::Text::byte program here)
 
+  has-text-Text-digit : HasT (in_world program) true text-Text-digit.code
+  has-text-Text-digit = text-Text-digit.has (in_world program) true (link.found-report::text::Text::digit program here) has-text-Text-byte
+
   has-text-Text-decimal : HasT (in_world program) true text-Text-decimal.code
-  has-text-Text-decimal = text-Text-decimal.has (in_world program) true (text-Text-decimal.cycle_has (in_world program) true (link.found-report::text::Text::decimal program here) has-text-Text-byte)
+  has-text-Text-decimal = text-Text-decimal.has (in_world program) true (text-Text-decimal.cycle_has (in_world program) true (link.found-report::text::Text::decimal program here) has-text-Text-digit)
 
   has-text-Text-spaced : HasT (in_world program) true text-Text-spaced.code
   has-text-Text-spaced = text-Text-spaced.has (in_world program) true (link.found-report::text::Text::spaced program here) has-text-Text-byte has-text-Text-decimal

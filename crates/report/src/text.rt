@@ -52,10 +52,19 @@ impl<'a> Text<'a> {
         requires { HasRoom (length (decimal n)) self.old }
         ensures { Wrote (decimal n) self.old self.new }
     {
-        if 10 <= n {
-            self.decimal(n / 10);
+        if n < 10 {
+            return self.digit(n);
         }
-        self.byte(b'0' + (n % 10) as u8);
+        self.decimal(n / 10);
+        self.digit(n % 10);
+    }
+
+    // A decimal digit.
+    fn digit(&mut self, digit: usize)
+        requires { (digit < 10) × HasRoom 1 self.old }
+        ensures { Wrote ((0x30 + digit) ∷ []) self.old self.new }
+    {
+        self.byte(b'0' + digit as u8);
     }
 
     // Bytes in hexadecimal, or a dash for none.

@@ -20,7 +20,8 @@ pub(crate) fn coded(number: usize, found: Record, body: &[u8], text: &mut Text)
     line(number, letter, answer, &bytes, text);
 }
 
-// The line of an answer, whose result stands at the start of these bytes.
+// The line of an answer, whose result stands at the start of these bytes. Inlined, so that where the text ends is kept in a register.
+#[inline(always)]
 pub(crate) fn line(
     number: usize,
     letter: u8,
