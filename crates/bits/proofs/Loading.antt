@@ -1,6 +1,7 @@
 -- The laws of bytes loaded and stored. Assumes nothing.
 --     load-all        as many bytes as are asked for, at most 8: the number of all of them
 --     room            a number of up to seven bytes leaves room for one more
+--     store_long      more bytes than 8: none is stored
 --     store-few       bytes that have room, at most 8: they stand at the start
 --     store-result    the bytes of a result's number, stored, are the result and what stood behind it
 use mathlib.Core.Path.{◌≡◌}
@@ -23,6 +24,10 @@ load-all count bytes h g = grind (arith, nat_tests)
 
 pub room : (i : ℕ) → i < 8 → 256 ^ i ≤ 256 ^ 7
 room i h = pow-le-pow_right {n = 256} (lit< tt) {j = 7} (omega arith)
+
+pub store_long : (v count : ℕ) (old : List ℕ) → count ≤ length old → 8 < count → stored v count old ≡ old
+unfolding stored
+store_long v count old h g = grind (arith, nat_tests)
 
 pub store-few : (v count : ℕ) (old : List ℕ) → count ≤ length old → count ≤ 8
     → stored v count old ≡ packed 8 count (bits (8 * count) v) ++ drop count old
